@@ -1,0 +1,4 @@
+pub mod BitLaws
+pub mod FirstLaws
+pub mod SentenceLaws
+pub mod VbrLaws
