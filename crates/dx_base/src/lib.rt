@@ -4,6 +4,8 @@
 mod bits;
 mod fault;
 mod list;
+#[cfg(test)]
+mod tests;
 mod words;
 
 pub use bits::{BitCursor, Vbr};
