@@ -1,0 +1,2 @@
+//! The words in which contracts speak of a program's branch graph.
+#![tactic(auto)]

@@ -1,0 +1,9 @@
+pub mod Finite
+pub mod Paths
+pub mod Stuck
+pub mod Rewrites
+pub mod Heads
+pub mod Order
+pub mod HeadsKept
+pub mod Dominators
+pub mod Public
