@@ -1,0 +1,12 @@
+pub mod Lists
+pub mod SourceLists
+pub mod TargetLists
+pub mod Moves
+pub mod Steps
+pub mod Edges
+pub mod Rewritten
+pub mod Marking
+pub mod Walking
+pub mod Choice
+pub mod Placing
+pub mod Made

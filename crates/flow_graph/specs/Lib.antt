@@ -1,0 +1,5 @@
+pub mod Links
+pub mod Changes
+pub mod Shapes
+pub mod Given
+pub mod Walked
