@@ -1,7 +1,8 @@
 -- Matches with room for more steps, and after some steps.
 use Rattle.std.proofs.Common.{◌≡◌, ℕ, suc, ◌+◌, ◌≤◌, [], arith, subst}
 use Rattle.dxil_meaning.specs.Launches.{Machine}
-use Rattle.dxil_meaning.proofs.Simulation.{Matched, is_wrong, acts, begins, Leads, leads_on}
+use Rattle.dxil_meaning.specs.Steps.{Matched, is_wrong, acts, begins, Leads}
+use Rattle.dxil_meaning.proofs.Simulation.{leads_on}
 
 module _ (S T : Type 0) (a : Machine S) (b : Machine T) (R : ℕ → S → T → Type 0) where
   pub with_room : (L K L' K' i : ℕ) (s : S) (t : T) → L ≤ L' → K ≤ K' → Matched S T a b R L K i s t → Matched S T a b R L' K' i s t

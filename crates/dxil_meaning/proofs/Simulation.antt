@@ -2,6 +2,7 @@
 use Rattle.std.proofs.Common.{◌≡◌, ℕ, zero, suc, ◌+◌, ◌-◌, ◌*◌, ◌<◌, ◌≤◌, Bool, true, false, List, [], ◌∷◌, ◌++◌, Option, Some, None, refl, sym, ap, ◌∙◌, subst, ⊎_elim, inl, inr, arith, eqb→eq}
 use Rattle.std.specs.Prelude.{◌⊎◌, T, not, nat_eq, nat_lt, if◌then◌else◌}
 use Rattle.dxil_form.specs.declared.instr.Scope.{Scope}
+use Rattle.dxil_meaning.specs.Steps.{Leads, Unless_end, Matched, is_wrong, acts, begins, Starting}
 use Rattle.dxil_meaning.specs.Launches.{Memory, on_access, on_barrier, on_end, some_member, group_of, is_elsewhere, waits_at, waits, past_barrier, Ask, Load, Store, Atomic, Swap, Barrier, End, Step, Wrong, Quiet, Acts, Machine, Site, Mode, New, Going, Waiting, Ended, Walk, Seen, World, Event, Outcome, Undefined, Busy, Complete, and_then, begin, Asking, on_step, reach, Shape, with_at, settle, Made, Turn, turn_in, turn, Ran, run, at_first, released, let_go}
 
 -- what is not over yet is busy, and stays as it is with more steps
@@ -39,10 +40,6 @@ stays_undefined m i n more le s walk e =
   where
     not_busy_undefined : {A : Type 0} → ◌≡◌ {A = Outcome A} Busy Undefined → ⊥
     not_busy_undefined e = grind arith
-
--- in exactly j quiet steps, which begin these blocks, the invocation comes from s to s'
-abbrev pub Leads : {S : Type 0} → Machine S → ℕ → ℕ → S → List ℕ → S → Type 0
-Leads m i j s begun s' = (n k : ℕ) → n ≡ j + k → (walk : Walk) → reach m i n s walk ≡ reach m i k s' (begin begun walk)
 
 pub leads_none : {S : Type 0} (m : Machine S) (i : ℕ) (s : S) → Leads m i 0 s [] s
 leads_none m i s n k e walk = let same : n ≡ k = omega arith in ap (λ x. reach m i x s walk) same
@@ -89,15 +86,6 @@ later m i j n s s' begun leads walk asking e = by_order (le_total j n)
         let total : j ≡ j + 0 = omega arith in
         absurd (not_busy_complete (sym (leads j 0 total walk) ∙ stays_complete m i n j le s walk asking e))
 
--- what is asked of an invocation that goes on: nothing after its end
-abbrev pub Unless_end : Ask → Type 0 → Type 0
-Unless_end (Load p) X = X
-Unless_end (Store p v) X = X
-Unless_end (Atomic p op v) X = X
-Unless_end (Swap p c v) X = X
-Unless_end (Barrier sync scope uav shared) X = X
-Unless_end End X = Unit {0}
-
 -- what an entry makes of an event that was settled, and of an outcome of `reach`
 abbrev after_settle : {X : Type 0} → ℕ → (ℕ → X) → (ℕ → X) → Outcome Made → Outcome (Turn X)
 after_settle i f next o =
@@ -133,21 +121,6 @@ at_answer End r f g v h = tt
 
 -- What two machines owe each other. R holds of two invocations that match: after an event, or at the beginning of a block.
 module _ (S T : Type 0) (a : Machine S) (b : Machine T) (R : ℕ → S → T → Type 0) (L K : ℕ) where
-  -- from here the source meets a wrong step, or both come to the same event or to the same beginning of blocks, and match again
-  pub data Matched (i : ℕ) (s : S) (t : T) : Type 0 where
-    is_wrong : (j : ℕ) (s' : S) → j < L → Leads a i j s [] s' → a.step i s' ≡ Wrong → Matched i s t
-    acts : (j k : ℕ) (s' : S) (t' : T) (ask : Ask) (f : ℕ → S) (g : ℕ → T) → j < L → k < K → Leads a i j s [] s' → a.step i s' ≡ Acts ask f → Leads b i k t [] t' → b.step i t' ≡ Acts ask g → Unless_end ask ((v : ℕ) → R i (f v) (g v)) → Matched i s t
-    begins : (j k : ℕ) (s' : S) (t' : T) (begun : List ℕ) → j < L → k < K → Leads a i (suc j) s begun s' → Leads b i (suc k) t begun t' → R i s' t' → Matched i s t
-
-  -- at the start the source begins its first blocks in no step, and the target in one at least
-  pub record Starting (i : ℕ) : Type 0 where
-    pub k : ℕ
-    pub t' : T
-    pub few : k < K
-    pub none_first : b.first ≡ []
-    pub leads : Leads b i (suc k) b.start a.first t'
-    pub matches : R i a.start t'
-
   -- the other machine asks the same after the same blocks, and goes on to a match
   pub record Found (i : ℕ) (asking : Asking S) (o : Outcome (Asking T)) : Type 0 where
     pub next : ℕ → T
@@ -256,8 +229,8 @@ module _ (S T : Type 0) (a : Machine S) (b : Machine T) (R : ℕ → S → T →
       let here = own_at i j h.own seen.modes s t f g (h.fits s t r) (each j) in
       ⊎_elim (λ e. subst (λ m. At m j (with_at i s f j) (with_at i t g j)) (sym e) here) (λ e. subst (λ m. At m j (with_at i s f j) (with_at i t g j)) (sym e) (let_go_at (with_at i h.own seen.modes j) j (with_at i s f j) (with_at i t g j) here)) (h.each j)
 
-  module _ (matched : (i : ℕ) (s : S) (t : T) → R i s t → Matched i s t) where
-    forward_case : (i n : ℕ) (s : S) (t : T) → ((n' : ℕ) → n' < n → (s : S) (t : T) → R i s t → (walk : Walk) (asking : Asking S) → reach a i n' s walk ≡ Complete asking → Found i asking (reach b i (K * n') t walk)) → Matched i s t → (walk : Walk) (asking : Asking S) → reach a i n s walk ≡ Complete asking → 0 < n → Found i asking (reach b i (K * n) t walk)
+  module _ (matched : (i : ℕ) (s : S) (t : T) → R i s t → Matched S T a b R L K i s t) where
+    forward_case : (i n : ℕ) (s : S) (t : T) → ((n' : ℕ) → n' < n → (s : S) (t : T) → R i s t → (walk : Walk) (asking : Asking S) → reach a i n' s walk ≡ Complete asking → Found i asking (reach b i (K * n') t walk)) → Matched S T a b R L K i s t → (walk : Walk) (asking : Asking S) → reach a i n s walk ≡ Complete asking → 0 < n → Found i asking (reach b i (K * n) t walk)
     forward_case i n s t ih (is_wrong j s' few leads wrong) walk asking e some =
         let long = stays_complete a i n (n + suc j) (omega arith) s walk asking e in
         let here = leads (n + suc j) (suc n) (omega arith) walk ∙ ap (λ step. on_step (reach a i n) step walk) wrong in
@@ -284,7 +257,7 @@ module _ (S T : Type 0) (a : Machine S) (b : Machine T) (R : ℕ → S → T →
         forward_case i (suc n) s t (λ n' less s t r walk asking e. forward fuel i n' (omega arith) s t r walk asking e) (matched i s t r) walk asking e (omega arith)
 
     -- the source may meet a wrong step instead
-    backward_case : (i n : ℕ) (s : S) (t : T) → ((n' : ℕ) → n' < n → (s : S) (t : T) → R i s t → (walk : Walk) (asking : Asking T) → reach b i n' t walk ≡ Complete asking → (reach a i (L * n') s walk ≡ Undefined) ⊎ Found_back i (reach a i (L * n') s walk) asking) → Matched i s t → (walk : Walk) (asking : Asking T) → reach b i n t walk ≡ Complete asking → 0 < n → (reach a i (L * n) s walk ≡ Undefined) ⊎ Found_back i (reach a i (L * n) s walk) asking
+    backward_case : (i n : ℕ) (s : S) (t : T) → ((n' : ℕ) → n' < n → (s : S) (t : T) → R i s t → (walk : Walk) (asking : Asking T) → reach b i n' t walk ≡ Complete asking → (reach a i (L * n') s walk ≡ Undefined) ⊎ Found_back i (reach a i (L * n') s walk) asking) → Matched S T a b R L K i s t → (walk : Walk) (asking : Asking T) → reach b i n t walk ≡ Complete asking → 0 < n → (reach a i (L * n) s walk ≡ Undefined) ⊎ Found_back i (reach a i (L * n) s walk) asking
     backward_case i n s t ih (is_wrong j s' few leads wrong) walk asking e some =
         let here = leads (suc j) 1 (omega arith) walk ∙ ap (λ step. on_step (reach a i 0) step walk) wrong in
         inl (stays_undefined a i (suc j) (L * n) (omega (arith, one_turn L n some)) s walk here)
@@ -308,7 +281,7 @@ module _ (S T : Type 0) (a : Machine S) (b : Machine T) (R : ℕ → S → T →
     backward (suc fuel) i (suc n) le s t r walk asking e =
         backward_case i (suc n) s t (λ n' less s t r walk asking e. backward fuel i n' (omega arith) s t r walk asking e) (matched i s t r) walk asking e (omega arith)
 
-    module _ (starting : (i : ℕ) → Starting i) where
+    module _ (starting : (i : ℕ) → Starting S T a b R L K i) where
       -- one entry of an invocation that was not named yet
       forward_new : (i n : ℕ) (walk : Walk) (asking : Asking S) → reach a i n a.start (begin a.first walk) ≡ Complete asking → Found i asking (reach b i (K * (n + 1)) b.start (begin b.first walk))
       forward_new i n walk asking e =

@@ -3,3 +3,4 @@ pub mod Launches
 pub mod Source
 pub mod Fits
 pub mod Rows
+pub mod Steps
