@@ -90,8 +90,9 @@ decoration (i ∷ is) id kind =
     if nat_eq i.opcode 71 && is_some_at (slice_get i.operands 0) id && is_some_at (slice_get i.operands 1) kind
     then slice_get i.operands 2 else decoration is id kind
 
--- ---- which place of the program a variable is
+-- ---- which memory of the program a variable stands for
 
+-- the class in the number of a binding
 abbrev pub class_number : Class → ℕ
 class_number Srv = 0
 class_number Uav = 1
@@ -104,6 +105,7 @@ resource_at (resource ∷ rest) set binding r =
     if nat_eq resource.space set && nat_eq (3 * resource.lower + class_number resource.class) binding then Some r
     else resource_at rest set binding (suc r)
 
+-- the resource that a buffer variable stands for, by its DescriptorSet and its Binding
 abbrev pub buffer_of : Module → Program → ℕ → Option ℕ
 buffer_of m p variable = at_both (decoration m.insts variable 34) (decoration m.insts variable 33)
   where
@@ -136,6 +138,7 @@ over_vectors m variable = is_some_at (option_and_then (declared_operand m 23 2) 
 
 -- ---- accesses
 
+-- the word, where there are more words
 abbrev pub if_below : ℕ → ℕ → Option ℕ
 if_below word size = if nat_lt word size then Some word else None
 
@@ -145,12 +148,13 @@ buffer_word false (zero ∷ i ∷ []) = Some i
 buffer_word true (zero ∷ r ∷ c ∷ []) = if nat_lt c 4 then Some (4 * r + c) else None
 buffer_word _ _ = None
 
+-- the word of a chain in a Workgroup variable: its index, and 0 without one
 abbrev pub shared_word : List ℕ → Option ℕ
 shared_word [] = Some 0
 shared_word (i ∷ []) = Some i
 shared_word _ = None
 
--- how many words a Workgroup variable has: those of its array, or one
+-- how many words a Workgroup variable has: as many as its array's length, a constant, says, and one where it is no array
 abbrev pub shared_size : Module → ℕ → ℕ
 shared_size m variable = size_in (option_and_then (declared_operand m 28 2) (pointee m variable))
   where
@@ -159,7 +163,7 @@ shared_size m variable = size_in (option_and_then (declared_operand m 28 2) (poi
     size_in (Some id) = value_in (declared_operand m 43 2 id)
       where
         value_in : Option ℕ → ℕ
-        value_in None = 1
+        value_in None = 0
         value_in (Some n) = n
 
 -- the place that a pointer names, where it names a word in range
@@ -195,7 +199,7 @@ pub record State : Type 0 where
 abbrev pub fixed : Module → ℕ → Option Value
 fixed m id = fixed_value (declared m.insts id) id
 
--- what an id is worth: what is declared before the function, or a result of this pass
+-- the value of an id: what is declared before the function, or a result of this pass
 abbrev pub or_result : Option Value → Option Value → Option Value
 or_result (Some v) result = Some v
 or_result None result = result
@@ -235,6 +239,7 @@ branch m label s =
 
 -- ---- instructions
 
+-- an instruction on two words, on two words with a truth as its result, and on two truths; other operands give nothing
 abbrev pub on_words : (ℕ → ℕ → Option ℕ) → Option Value → Option Value → Option Value
 on_words f (Some (Word x)) (Some (Word y)) = option_map Word (f x y)
 on_words f _ _ = None
@@ -247,7 +252,10 @@ abbrev pub on_truths : (Bool → Bool → Bool) → Option Value → Option Valu
 on_truths f (Some (Truth x)) (Some (Truth y)) = Some (Truth (f x y))
 on_truths f _ _ = None
 
--- what each instruction with two operands gives
+-- what each instruction with two operands gives, in this order: IAdd, ISub, IMul, UDiv, SDiv, UMod, SRem;
+-- LogicalEqual, LogicalNotEqual, LogicalOr, LogicalAnd;
+-- IEqual, INotEqual, UGreaterThan, SGreaterThan, UGreaterThanEqual, SGreaterThanEqual, ULessThan, SLessThan, ULessThanEqual, SLessThanEqual;
+-- ShiftRightLogical, ShiftRightArithmetic, ShiftLeftLogical, BitwiseOr, BitwiseXor, BitwiseAnd
 abbrev pub two_table : List (ℕ × (Option Value → Option Value → Option Value))
 two_table =
     (128, on_words (λ x y. Some (word_add x y))) ∷
@@ -278,10 +286,12 @@ two_table =
     (198, on_words (λ x y. Some (bit_xor x y))) ∷
     (199, on_words (λ x y. Some (bit_and x y))) ∷ []
 
+-- the first row of the key
 abbrev pub lookup : {A : Type 0} → ℕ → List (ℕ × A) → Option A
 lookup key [] = None
 lookup key (row ∷ rows) = if nat_eq row.0 key then Some row.1 else lookup key rows
 
+-- AtomicExchange, AtomicIAdd, AtomicISub, AtomicSMin, AtomicUMin, AtomicSMax, AtomicUMax, AtomicAnd, AtomicOr, AtomicXor
 abbrev pub atomic_table : List (ℕ × AtomicOp)
 atomic_table =
     (229, atomic.Exchange) ∷ (234, atomic.Add) ∷ (235, atomic.Sub) ∷ (236, atomic.SMin) ∷ (237, atomic.UMin) ∷
@@ -293,10 +303,11 @@ local_size [] = []
 local_size (i ∷ is) =
     if nat_eq i.opcode 16 && is_some_at (slice_get i.operands 1) 17 then drop 2 i.operands else local_size is
 
+-- the three components
 abbrev pub three : (ℕ → ℕ) → List ℕ
 three f = f 0 ∷ f 1 ∷ f 2 ∷ []
 
--- what an Input variable of a built-in holds
+-- what an Input variable holds, by its built-in: WorkgroupId, LocalInvocationId, GlobalInvocationId, LocalInvocationIndex
 abbrev pub builtin_table : Launch → List ℕ → ℕ → List (ℕ × Value)
 builtin_table l local i =
     (26, Vector (three (λ c. coordinate l.groups c (i / product local)))) ∷
@@ -357,10 +368,12 @@ abbrev pub fits_scope : Place → Option ℕ → Bool
 fits_scope (launch.Buffer r word) scope = is_some_at scope 1
 fits_scope (launch.Shared a word) scope = is_some_at scope 2
 
+-- the place that a pointer names
 abbrev pub pointer_place : Module → Program → Launch → Option Value → Option Place
 pointer_place m p l (Some (Pointer variable indices)) = place_of m p l variable indices
 pointer_place m p l _ = None
 
+-- an atomic is an event, and its result is the word that was there
 abbrev pub atomic_step : Module → Program → Launch → AtomicOp → ℕ → (pointer scope semantics value : Option Value) → State → Step State
 atomic_step m p l op id pointer scope semantics value s =
     given (pointer_place m p l pointer) λ place.
@@ -369,6 +382,7 @@ atomic_step m p l op id pointer scope semantics value s =
     then Acts (launch.Atomic place op v) (λ old. record { at = suc s.at; results = with_value id (Some (Word old)) s.results; locals = s.locals })
     else Wrong
 
+-- AtomicCompareExchange: both semantics are 0
 abbrev pub swap_step : Module → Program → Launch → ℕ → (pointer scope equal unequal value compare : Option Value) → State → Step State
 swap_step m p l id pointer scope equal unequal value compare s =
     given (pointer_place m p l pointer) λ place.
@@ -391,6 +405,7 @@ barrier_step sync (Some scope) (Some semantics) s =
     fence who uav shared = Acts (launch.Barrier sync who uav shared) (λ answer. next s)
 barrier_step sync _ _ s = Wrong
 
+-- the label of the pair whose number this is, or the default
 abbrev pub case_of : ℕ → List ℕ → ℕ → ℕ
 case_of v [] default = default
 case_of v (x ∷ []) default = default
@@ -404,6 +419,7 @@ abbrev pub words_at : Module → State → List ℕ → Option (List ℕ)
 words_at m s [] = Some []
 words_at m s (id ∷ ids) = both_words (word_of m s id) (words_at m s ids)
 
+-- a chain appends its indices to those of its base
 abbrev pub chain : Option Value → Option (List ℕ) → Option Value
 chain (Some (Pointer variable indices)) (Some more) = Some (Pointer variable (indices ++ more))
 chain _ _ = None
@@ -454,6 +470,8 @@ pub data Kind : Type 0 where
   Switches : Kind
   Returns : Kind
 
+-- Function, Variable, LoopMerge, SelectionMerge, Label, Load, Store; AccessChain, ArrayLength, CompositeExtract, Select, LogicalNot;
+-- BitReverse, BitCount, AtomicCompareExchange; ControlBarrier, MemoryBarrier, Branch, BranchConditional, Switch; Return
 abbrev pub kind_table : List (ℕ × Kind)
 kind_table =
     (54, Passes) ∷ (59, Passes) ∷ (246, Passes) ∷ (247, Passes) ∷ (248, Label_begins) ∷ (61, Loads) ∷ (62, Stores) ∷
