@@ -2,7 +2,11 @@
 #![tactic(auto)]
 
 mod command_line;
+mod empty_shader;
+#[cfg(test)]
 mod example;
+mod header;
+mod module_words;
 mod output;
 mod status;
 #[cfg(test)]
