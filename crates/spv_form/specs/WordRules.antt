@@ -24,7 +24,7 @@ unfoldable pub begin_of : List ℕ → ℕ → ℕ
 begin_of words zero = 5
 begin_of words (suc i) = begin_of words i + size_at words (begin_of words i)
 
--- An instruction begins at the word. Behind a size of 0 no other word follows in this row, and behind one that passes the end none is left, so nothing is asked there.
+-- An instruction begins at the word. After one of size 0 the next would begin at the same word, and after one that passes the end none is left: nothing is asked there.
 pub record Begins (words : List ℕ) (at : ℕ) : Type 0 where
   pub index : ℕ
   pub is : begin_of words index ≡ at
