@@ -1,0 +1,5 @@
+pub mod Shapes
+pub mod Operands
+pub mod Formed
+pub mod Words
+pub mod WordRules
