@@ -1,6 +1,6 @@
 //! Edges in the cells of one vector, each in the list of its source and in the list of its target.
 
-ghost use Rattle.std.specs.Prelude.{◌≡◌, ◌≢◌, ◌<◌, ◌≤◌, ◌↔◌, ℕ, length, true, false, IsTrue};
+ghost use Rattle.std.specs.Prelude.{◌≡◌, ◌≢◌, ◌<◌, ◌↔◌, ℕ, length, true, false, IsTrue};
 ghost use Rattle.std.specs.Option.{IfSome, IfNone, MatchOption};
 ghost use Rattle.flow_graph.specs.Links.{IsLast, IsAbove, leaves, enters, cell_at, FromLists, FromListsBut, ToLists, ToListsBut, Joining, Sound};
 ghost use Rattle.flow_graph.specs.Changes.{SameButFrom, SameButTo, Without, Relabelled, Ended, Between, Merged};
