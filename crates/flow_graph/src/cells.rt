@@ -279,20 +279,11 @@ pub(crate) fn sole_source(cells: &[Cell], first_to: &[Option<u32>], j: u32) -> O
     ensures found { IfSome result (λ a. Joining cells.now a j × a ≢ j × ((x : ℕ) → Joining cells.now x j → x ≡ a)) }
     ensures none { IfNone result ((a : ℕ) → Joining cells.now a j → a ≢ j → ((x : ℕ) → Joining cells.now x j → x ≡ a) → ⊥) }
 {
-    match first_to[j as usize] {
-        Some(c) => {
-            let cell = &cells[c as usize];
-            match cell.next_to {
-                Some(_) => None,
-                None => {
-                    if cell.from == j {
-                        None
-                    } else {
-                        Some(cell.from)
-                    }
-                }
-            }
-        }
-        None => None,
+    let c = first_to[j as usize]?;
+    let cell = &cells[c as usize];
+    match cell.next_to {
+        Some(_) => None,
+        None if cell.from == j => None,
+        None => Some(cell.from),
     }
 }
