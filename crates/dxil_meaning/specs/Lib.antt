@@ -1,0 +1,6 @@
+pub mod Arithmetic
+pub mod Launches
+pub mod Source
+pub mod Fits
+pub mod Rows
+pub mod Steps

@@ -1,0 +1,10 @@
+//! What a DXIL program does: arithmetic, the machine of one invocation, and launches of many invocations over one memory.
+#![tactic(auto)]
+
+mod launch;
+mod rows;
+#[cfg(test)]
+mod tests;
+
+pub use launch::fits_launch;
+pub use rows::worked_rows;
