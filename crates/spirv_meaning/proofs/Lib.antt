@@ -1,0 +1,6 @@
+pub mod SameByMatching
+pub mod Numbers
+mod Searching
+mod Texts
+pub mod Sites
+mod SmallRuns
