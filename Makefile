@@ -2,9 +2,9 @@
 
 .PHONY: demo test
 
-# Builds the program, and translates the sample shader.
+# Proves and builds the program, and translates the sample shader to crates/dxil_cli/out/e.spv.
 demo:
-	cd crates/dxil_cli && rt run -- translate e.dxbc e.spv
+	cd crates/dxil_cli && rt run -- translate data/e.dxbc out/e.spv
 
 # Proves every crate, tries the must-fail edits, and runs every test and program.
 test:

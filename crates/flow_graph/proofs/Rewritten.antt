@@ -110,13 +110,13 @@ module _ (live : List Bool) (ff ft : List (Option ℕ)) (cells : List Cell) (mar
     queue_count = k.queue_count;
   }
 
-  pub kept_merged : (a j : ℕ) → get_or live a false ≡ true → Merged a j cells new → Kept (set live j false) gf gt new marks queue
-  kept_merged a j la m = record {
+  pub kept_merged : (new_marks : List Bool) → length new_marks ≡ length marks → (a j : ℕ) → get_or live a false ≡ true → Merged a j cells new → Kept (set live j false) gf gt new new_marks queue
+  kept_merged new_marks em a j la m = record {
     from_count = ef ∙ k.from_count ∙ sym len;
     to_count = et ∙ k.to_count ∙ sym len;
     sound = s;
     ends = λ x y i. ends x y ((m x y).0 i);
-    marks_count = k.marks_count ∙ sym len;
+    marks_count = em ∙ k.marks_count ∙ sym len;
     queue_count = k.queue_count ∙ sym len;
   }
     where

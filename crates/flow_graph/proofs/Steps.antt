@@ -1,10 +1,12 @@
 -- One edge on its way from one source to another.
-use Rattle.std.proofs.Common.{◌≡◌, ◌≢◌, ◌⊎◌, inl, inr, ℕ, ◌<◌, Bool, true, false, not, ◌&&◌, eqb, Option, Some, None, List, length, get_or, sym, refl, ap, subst, ◌∙◌, arith, eqb-true, eq-eqb, ne_eqb}
+use Rattle.std.proofs.Common.{◌≡◌, ◌≢◌, ◌⊎◌, inl, inr, ℕ, ◌+◌, ◌<◌, Bool, true, false, not, ◌&&◌, eqb, Option, Some, None, List, length, get_or, sym, refl, ap, subst, ◌∙◌, arith, eqb-true, eq-eqb, ne_eqb}
 use Rattle.std.proofs.lemmas.List.{get_or_past}
 use Rattle.std.proofs.lemmas.Bool.{cases_lt, cases_eq, both_ways, and_parts, and_from, eqb-false, not-true, not_from_false}
 use Rattle.flow_graph.specs.declared.cells.Cell.{Cell}
-use Rattle.flow_graph.specs.Links.{IsLast, no_cell, cell_at, leaves, enters, first_of, next_to_of, FromLists, ToLists, Joining, Sound}
-use Rattle.flow_graph.specs.Changes.{Without, Relabelled, Ended, Between, Merged}
+use Rattle.flow_graph.specs.Links.{left, IsLast, no_cell, cell_at, leaves, enters, first_of, next_to_of, FromLists, ToLists, Joining, Sound}
+use Rattle.flow_graph.specs.Changes.{Without, Relabelled, Ended, Between, Merging, Merged}
+use Rattle.flow_graph.specs.Walked.{marked}
+use Rattle.std.specs.Option.{IfSome}
 use Rattle.flow_graph.proofs.SourceLists.{linked_same}
 
 pub between_start : (a j : ℕ) (cells : List Cell) → Between a j cells cells
@@ -23,6 +25,21 @@ in_range cells x d t = elim (cases_lt d (length cells)) [
   | inl l ↦ l
   | inr g ↦ absurd (both_ways _ (ap (λ (k : Cell). k.used && eqb k.from x) (get_or_past cells d no_cell g)) t)
 ]
+
+-- a list without its first edge starts lower
+list_falls : (now new : List Cell) (gf : List (Option ℕ)) (j c : ℕ) → FromLists new gf → j < length gf → length new ≡ length now
+    → IsLast (leaves now j) (length now) (Some c) → ((e : ℕ) → leaves new j e ≡ true → (leaves now j e ≡ true) × (e ≢ c))
+    → left (get_or gf j None) < c + 1
+list_falls now new gf j c lists l count (_, _, none) others = lower (get_or gf j None) (lists.heads j l)
+  where
+    lower : (r : Option ℕ) → IsLast (leaves new j) (length new) r → left r < c + 1
+    lower None h = omega arith
+    lower (Some r) (k, t, _) =
+        let (u, n) = others r t in
+        elim (cases_lt r c) [
+          | inl m ↦ omega arith
+          | inr g ↦ absurd (both_ways _ (none r (omega arith) (omega arith)) u)
+        ]
 
 -- the lists stay sound where an edge ends
 pub remove_sound : (now new : List Cell) (c : ℕ) (ff ft gf gt : List (Option ℕ)) → Without c now new → Sound now ff ft
@@ -80,6 +97,32 @@ module _ (a j : ℕ) (apart : a ≢ j) (start now new : List Cell) (b : Between 
       ];
     }
 
+    were : (x d : ℕ) → leaves new x d ≡ true → (leaves now x d ≡ true) × (d ≢ c)
+    were x d t =
+        let (u, f) = and_parts (cell_at new d).used (eqb (cell_at new d).from x) t in
+        let (v, n) = and_parts (cell_at now d).used (not (eqb d c)) (sym (w.used d) ∙ u) in
+        (and_from (cell_at now d).used _ v (ap (λ (z : ℕ). eqb z x) (sym (w.from d)) ∙ f), eqb-false d c (not-true (eqb d c) n))
+
+    stay : (x d : ℕ) → leaves now x d ≡ true → d ≢ c → leaves new x d ≡ true
+    stay x d t n =
+        let (u, f) = and_parts (cell_at now d).used (eqb (cell_at now d).from x) t in
+        and_from (cell_at new d).used _ (w.used d ∙ and_from (cell_at now d).used _ u (not_from_false (eqb d c) (ne_eqb d c n)))
+        (ap (λ (z : ℕ). eqb z x) (w.from d) ∙ f)
+
+    -- the marks stay right where an edge of j ends
+    pub merging_remove : (marks : List Bool) (hint : Option ℕ) → Merging a j marks hint now → Merging a j marks hint new
+    merging_remove marks hint m = record {
+      targets = λ y t. (let (d, l, k, s) = m.targets y t in on a y d l k s (not_c a d apart k));
+      doubled = λ d e t u q. (let P : ℕ → Type 0 = λ z. marked marks z ≡ true in
+          subst P (sym (w.to e)) (m.doubled d e (were a d t).0 (were j e u).0 (sym (w.to d) ∙ q ∙ w.to e)));
+      below = below hint m.below;
+    }
+      where
+        below : (o : Option ℕ) → IfSome o (λ p. (p < length now) × (leaves now a p ≡ true) × ((e : ℕ) → leaves now j e ≡ true → e < p))
+            → IfSome o (λ p. (p < length new) × (leaves new a p ≡ true) × ((e : ℕ) → leaves new j e ≡ true → e < p))
+        below None h = h
+        below (Some p) (l, t, h) = (omega arith, stay a p t (not_c a p apart t), λ e u. h e (were j e u).0)
+
   module _ (w : Relabelled c a now new) where
     same_leaves : (x d : ℕ) → d ≢ c → leaves new x d ≡ leaves now x d
     same_leaves x d n = ap (λ (t : Bool). t && eqb (cell_at new d).from x) (w.used d) ∙ ap (λ (y : ℕ). (cell_at now d).used && eqb y x) (w.from d n)
@@ -115,6 +158,41 @@ module _ (a j : ℕ) (apart : a ≢ j) (start now new : List Cell) (b : Between 
               inr (at_c x (subst P q t), b.remaining y (c, inside, own, e)))
           | inr m ↦ b.only x y n (d, omega arith, sym (same_leaves x d m) ∙ t, sym (w.to d) ∙ s)
         ]
+
+    others : (e : ℕ) → leaves new j e ≡ true → (leaves now j e ≡ true) × (e ≢ c)
+    others e t =
+        let P : ℕ → Type 0 = λ y. leaves new j y ≡ true in
+        let n : e ≢ c = λ q. apart (sym (at_c j (subst P q t))) in
+        (sym (same_leaves j e n) ∙ t, n)
+
+    -- the marks stay right where an edge moves, and the next hint is its place
+    pub merging_move : (marks : List Bool) (hint : Option ℕ) → Merging a j marks hint now
+        → ((x d k : ℕ) → leaves now x d ≡ true → leaves now x k ≡ true → (cell_at now d).to ≡ (cell_at now k).to → d ≡ k)
+        → IsLast (leaves now j) (length now) (Some c) → Merging a j marks (Some c) new
+    merging_move marks hint m single (_, _, none) = record {
+      targets = λ y t. (let (d, l, k, s) = m.targets y t in (d, omega arith, same_leaves a d (not_c a d apart k) ∙ k, w.to d ∙ s));
+      doubled = λ d e t u q. doubled d e t (others e u) (sym (w.to d) ∙ q ∙ w.to e);
+      below = (omega arith, new_own, λ e u. below e (others e u));
+    }
+      where
+        doubled : (d e : ℕ) → leaves new a d ≡ true → (leaves now j e ≡ true) × (e ≢ c) → (cell_at now d).to ≡ (cell_at now e).to
+            → marked marks (cell_at new e).to ≡ true
+        doubled d e t (u, n) q = elim (cases_eq d c) [
+          | inl o ↦ absurd (n (sym (single j c e own u (ap (λ (z : ℕ). (cell_at now z).to) (sym o) ∙ q))))
+          | inr o ↦ (let P : ℕ → Type 0 = λ z. marked marks z ≡ true in
+              subst P (sym (w.to e)) (m.doubled d e (sym (same_leaves a d o) ∙ t) u q))
+        ]
+
+        below : (e : ℕ) → (leaves now j e ≡ true) × (e ≢ c) → e < c
+        below e (u, n) = elim (cases_lt e c) [
+          | inl l ↦ l
+          | inr g ↦ absurd (both_ways _ (none e (omega arith) (in_range now j e u)) u)
+        ]
+
+    -- the list of j gets shorter
+    pub falls_move : (gf : List (Option ℕ)) → FromLists new gf → j < length gf → IsLast (leaves now j) (length now) (Some c)
+        → left (get_or gf j None) < c + 1
+    falls_move gf lists l last = list_falls now new gf j c lists l count last others
 
     -- the lists stay sound, if a had no such edge
     pub move_sound : (ff ft gf : List (Option ℕ)) → Sound now ff ft → length gf ≡ length ff → a < length ff → FromLists new gf

@@ -1,7 +1,9 @@
 -- What the steps of the two rewrites change in the cells.
-use Rattle.std.specs.Prelude.{◌≡◌, ◌≢◌, ◌⊎◌, ◌↔◌, ℕ, not, ◌&&◌, eqb, List}
+use Rattle.std.specs.Prelude.{◌≡◌, ◌≢◌, ◌⊎◌, ◌↔◌, ℕ, ◌<◌, Bool, true, not, ◌&&◌, eqb, List, length, Option}
+use Rattle.std.specs.Option.{IfSome}
 use Rattle.flow_graph.specs.declared.cells.Cell.{Cell}
-use Rattle.flow_graph.specs.Links.{cell_at, Joining}
+use Rattle.flow_graph.specs.Links.{cell_at, leaves, Joining}
+use Rattle.flow_graph.specs.Walked.{marked}
 
 -- all but the links of the sources' lists stays
 pub record SameButFrom (old new : List Cell) : Type 0 where
@@ -41,6 +43,12 @@ pub record Between (a j : ℕ) (start now : List Cell) : Type 0 where
   pub only : (x y : ℕ) → x ≢ j → Joining now x y → Joining start x y ⊎ ((x ≡ a) × Joining start j y)
   pub remaining : (y : ℕ) → Joining now j y → Joining start j y
   pub gone : (y : ℕ) → Joining start j y → Joining now a y ⊎ Joining now j y
+
+-- what a merge of the list of j into that of a knows: the marks are of targets of a, which tell where an edge of j is doubled, and all edges of j lie below the hint
+pub record Merging (a j : ℕ) (marks : List Bool) (hint : Option ℕ) (now : List Cell) : Type 0 where
+  pub targets : (y : ℕ) → marked marks y ≡ true → Joining now a y
+  pub doubled : (d c : ℕ) → leaves now a d ≡ true → leaves now j c ≡ true → (cell_at now d).to ≡ (cell_at now c).to → marked marks (cell_at now c).to ≡ true
+  pub below : IfSome hint (λ p. (p < length now) × (leaves now a p ≡ true) × ((c : ℕ) → leaves now j c ≡ true → c < p))
 
 -- j has no edges any more, each edge from j to another node is one from a, and all others stay
 abbrev pub Merged : ℕ → ℕ → List Cell → List Cell → Type 0

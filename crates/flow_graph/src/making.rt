@@ -2,9 +2,9 @@
 //!
 //! The edges are grouped by source. Then those of one source are seen in a row, so that one mark for each target tells which is doubled.
 
-ghost use Rattle.std.specs.Prelude.{◌≡◌, ◌≢◌, ◌⊎◌, ◌<◌, ◌≤◌, ◌+◌, ◌^◌, ℕ, length, replicate, true, false, None, IfOk};
-ghost use Rattle.flow_graph.specs.Links.{no_cell, cell_at, leaves, enters, first_of, Linked, FromLists, ToLists};
-ghost use Rattle.flow_graph.specs.Given.{Within, edge_at, Grouped, chosen_at, Chosen, IsChoice, Placed};
+ghost use Rattle.std.specs.Prelude.{◌≡◌, ◌<◌, ◌+◌, ◌^◌, ℕ, length, replicate, true, false, None, IfOk};
+ghost use Rattle.flow_graph.specs.Links.{no_cell, cell_at, first_of};
+ghost use Rattle.flow_graph.specs.Given.{Within, Grouped, chosen_at, Chosen, IsChoice, Placed};
 
 use crate::cells::Cell;
 use crate::linked::Edge;

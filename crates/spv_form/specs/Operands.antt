@@ -1,5 +1,5 @@
 -- What the operand words of an instruction are, by the shape of its opcode: ids, numbers and the words of a string.
-use Rattle.std.specs.Prelude.{ℕ, ◌+◌, ◌-◌, ◌%◌, ◌==◌, ◌||◌, ◌&&◌, nat_le, nat_lt, Bool, true, false, List, length, drop, get_or, Option, option_map, position, if◌then◌else◌}
+use Rattle.std.specs.Prelude.{ℕ, ◌+◌, ◌-◌, ◌%◌, ◌==◌, ◌||◌, ◌&&◌, nat_le, nat_lt, Bool, true, false, List, length, drop, get_or, Option, None, option_map, position, if◌then◌else◌}
 use Rattle.std.specs.Option.{option_map_or}
 use Rattle.std.specs.List.{list_any, list_all, after_first}
 use Rattle.std.specs.Int.{bit_at, to_le_bytes, w32}
@@ -34,8 +34,21 @@ string_ends (Plain has_type has_id least most numbers) operands = true
 string_ends (Text before after numbers) operands = option_map_or (λ last. is_filled (get_or operands last 0)) (string_last operands before) false
 string_ends Pairs operands = true
 
--- The operand word at a place is an id.
+-- where the string's last word stands, for a shape that has a string with an end
+abbrev pub last_of : Shape → List ℕ → Option ℕ
+last_of (Plain has_type has_id least most numbers) operands = None
+last_of (Text before after numbers) operands = string_last operands before
+last_of Pairs operands = None
+
+-- a bit of a mask is clear
+abbrev pub is_clear : ℕ → ℕ → Bool
+is_clear mask bit = bit_at mask bit == 0
+
+-- The operand word at a place is an id, where the string's last word stands at `last`.
+abbrev pub is_id_at : Shape → Option ℕ → ℕ → Bool
+is_id_at (Plain has_type has_id least most numbers) last at = nat_lt at (front has_type has_id) || is_clear numbers (at - front has_type has_id)
+is_id_at (Text before after numbers) last at = if nat_lt at before then is_clear numbers at else option_map_or (λ place. nat_lt place at) last false
+is_id_at Pairs last at = at == 0 || at % 2 == 1
+
 abbrev pub is_id : Shape → List ℕ → ℕ → Bool
-is_id (Plain has_type has_id least most numbers) operands at = nat_lt at (front has_type has_id) || bit_at numbers (at - front has_type has_id) == 0
-is_id (Text before after numbers) operands at = if nat_lt at before then bit_at numbers at == 0 else option_map_or (λ last. nat_lt last at) (string_last operands before) false
-is_id Pairs operands at = at == 0 || at % 2 == 1
+is_id shape operands at = is_id_at shape (last_of shape operands) at

@@ -1,4 +1,4 @@
--- The operands of each opcode that a module may have (SPIR-V 1.6, section 3.49).
+-- The operands of each opcode that a module may have (SPIR-V 1.6, section 3).
 use Rattle.std.specs.Prelude.{ℕ, ◌==◌, ◌||◌, ◌&&◌, nat_le, Bool, true, false, Option, Some, None, option_map, if◌then◌else◌}
 use Rattle.spv_form.specs.declared.shape.Shape.{Shape}
 use Rattle.spv_form.specs.declared.shape.Shape.TheVariants.{Plain, Text, Pairs}

@@ -1,4 +1,4 @@
-//! The opcodes that a module may have, by the names of SPIR-V 1.6, section 3.49, less `Op`.
+//! The opcodes that a module may have, by the names of SPIR-V 1.6, section 3, less `Op`.
 
 pub const NAME: u16 = 5;
 

@@ -1,0 +1,4 @@
+pub mod FramedLaws
+pub mod Fronts
+pub mod Steps
+pub mod Values

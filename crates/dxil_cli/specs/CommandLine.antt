@@ -1,0 +1,8 @@
+-- The command that a parsed command line means.
+use Rattle.dxil_cli.specs.declared.command_line.CommandLine.{CommandLine}
+use Rattle.dxil_cli.specs.declared.command_line.CommandLine.TheVariants.{Translate, Unknown}
+use Rattle.dxil_cli.specs.Commands.{Command, translate, unknown}
+
+abbrev pub command_meant : CommandLine → Command
+command_meant (Translate from to) = translate from.now to.now
+command_meant Unknown = unknown

@@ -1,0 +1,11 @@
+pub mod Commands
+pub mod CommandLine
+pub mod FirstFailing
+pub mod EmptyShader
+pub mod Headers
+pub mod Comparing
+pub mod ModuleWords
+pub mod Verdicts
+pub mod Answers
+pub mod Runs
+pub mod Outputs

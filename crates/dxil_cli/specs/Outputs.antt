@@ -1,0 +1,40 @@
+-- What a command has made before it writes and says.
+use Rattle.std.specs.Prelude.{◌≡◌, ℕ, List, Some, string_bytes}
+use Rattle.std.specs.Option.{option_map}
+use Rattle.dx_outside.specs.Outside.{FilesSeen, SinkSeen, Rose, SaidPart, with_more}
+use Rattle.dxil_cli.specs.declared.output.Output.{Output}
+use Rattle.dxil_cli.specs.declared.status.Status.{Status}
+use Rattle.dxil_cli.specs.declared.status.Status.TheVariants.{Done, Refused, Usage, ReadFault, WriteFault, Limit, OutOfMemory, SayFault}
+use Rattle.dxil_cli.specs.Commands.{Command, source, target}
+use Rattle.dxil_cli.specs.Answers.{Answer, IsAnswer, IsTranslated}
+use Rattle.dxil_cli.specs.Runs.{Read, Leaves}
+
+-- the answer that an output is
+abbrev pub answer_of : List ℕ → Output → Answer
+answer_of to output = record { status = output.status; writes = option_map (λ bytes. (to, bytes)) output.bytes; text = string_bytes output.text }
+
+-- The output is the answer of `translate` to a file of these bytes.
+pub record IsOutput (bytes : List ℕ) (output : Output) : Type 0 where
+  pub translated : (to : List ℕ) → IsTranslated to bytes (answer_of to output)
+
+-- the statuses of answers
+abbrev pub IsOfAnswer : Status → Type 0
+IsOfAnswer Done = Unit {0}
+IsOfAnswer Refused = Unit {0}
+IsOfAnswer Usage = Unit {0}
+IsOfAnswer Limit = Unit {0}
+IsOfAnswer ReadFault = ⊥
+IsOfAnswer WriteFault = ⊥
+IsOfAnswer OutOfMemory = ⊥
+IsOfAnswer SayFault = ⊥
+
+-- The text was said whole, and the status is the given one; or a prefix of it was said.
+pub data Concluded (text : List ℕ) (old new : SinkSeen) (status : Status) : Status → Type 0 where
+  whole : new.taken ≡ with_more old.taken text → Concluded text old new status status
+  failed : Rose old.faults new.faults → SaidPart text old.taken new.taken → Concluded text old new status SayFault
+  lacking : Rose old.lacks new.lacks → SaidPart text old.taken new.taken → Concluded text old new status OutOfMemory
+
+-- Whatever command this output is the answer of, what it leaves is met.
+pub record Finishes (to : List ℕ) (output : Output) (files : FilesSeen) (sink : SinkSeen) (files' : FilesSeen) (sink' : SinkSeen) (status : Status) : Type 0 where
+  pub leaves : (command : Command) (bytes : List ℕ) → Read (source command) files.store bytes → target command ≡ Some to
+      → IsAnswer command bytes (answer_of to output) → Leaves command files sink files' sink' status

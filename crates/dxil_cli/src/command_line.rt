@@ -1,0 +1,28 @@
+ghost use Rattle.std.specs.Prelude.{◌≡◌, map, string_bytes, length};
+ghost use Rattle.dxil_cli.specs.Commands.{command_of};
+ghost use Rattle.dxil_cli.specs.CommandLine.{command_meant};
+
+/// What the words of the command line ask. Names are passed on as they are.
+#[derive(Clone, Copy, Debug)]
+pub enum CommandLine<'a> {
+    /// `translate IN OUT`
+    Translate { from: &'a str, to: &'a str },
+    /// Words of no known form.
+    Unknown,
+}
+
+/// Parses the words after the program's name. It takes no memory.
+pub fn parse_words(words: &[String]) -> CommandLine<'_>
+    ensures { command_meant result ≡ command_of (map string_bytes words.now) }
+{
+    if words.len() == 3 {
+        if words[0].as_str() == "translate" {
+            return CommandLine::Translate {
+                from: words[1].as_str(),
+                to: words[2].as_str(),
+            };
+        }
+        return CommandLine::Unknown;
+    }
+    CommandLine::Unknown
+}

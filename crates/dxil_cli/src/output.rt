@@ -1,0 +1,112 @@
+ghost use Rattle.std.specs.Prelude.{◌≡◌, ◌≤◌, ◌^◌, length, IfOk, None, Some, string_bytes};
+ghost use Rattle.dx_base.specs.WordBytes.{bytes_of_words};
+ghost use Rattle.dxil_cli.specs.Answers.{rule_name, limit_name, refused_line, limit_line, translated_line};
+ghost use Rattle.dxil_cli.specs.Outputs.{IsOutput};
+
+use crate::status::Status;
+use crate::translate::translate;
+use dx_base::{Bytes, Fault, Rule, Which, Words, bytes_of};
+use std::alloc::{AllocError, Global};
+
+/// All that a command has made before it writes and says.
+#[derive(Debug, Drop)]
+pub struct Output {
+    /// The status where neither the write nor the saying fails.
+    pub status: Status,
+    /// The bytes of the file that is written, if there is one.
+    pub bytes: Option<Bytes>,
+    /// The text that is said.
+    pub text: String,
+}
+
+/// The rule's letter and number.
+fn named_rule(alloc: Global, rule: Rule) -> Result<String, AllocError>
+    ensures { IfOk result (λ text. string_bytes text ≡ rule_name rule) }
+{
+    match rule {
+        Rule::C(n) => format!(in alloc; "C{n}"),
+        Rule::B(n) => format!(in alloc; "B{n}"),
+        Rule::Y(n) => format!(in alloc; "Y{n}"),
+        Rule::M(n) => format!(in alloc; "M{n}"),
+        Rule::N(n) => format!(in alloc; "N{n}"),
+        Rule::P(n) => format!(in alloc; "P{n}"),
+        Rule::NotYet => format!(in alloc; "NotYet"),
+    }
+}
+
+/// The name of what a limit counts.
+fn named_limit(which: Which) -> &'static str
+    ensures { result.now ≡ limit_name which }
+{
+    match which {
+        Which::File => "file",
+        Which::Records => "records",
+        Which::Fields => "fields",
+        Which::Blocks => "blocks",
+        Which::Instructions => "instructions",
+        Which::Cases => "cases",
+        Which::PhiEntries => "phi-entries",
+        Which::Resources => "resources",
+    }
+}
+
+/// The output for a file that breaks a rule.
+fn refusal(alloc: Global, rule: Rule, bit: u64) -> Result<Output, AllocError>
+    ensures status { IfOk result (λ output. output.status ≡ Status.Refused) }
+    ensures bytes { IfOk result (λ output. output.bytes ≡ None) }
+    ensures text { IfOk result (λ output. string_bytes output.text ≡ refused_line (rule_name rule) bit) }
+{
+    let name = named_rule(alloc, rule)?;
+    let text = format!(in alloc; "refused {name} bit {bit}\n")?;
+    Ok(Output {
+        status: Status::Refused,
+        bytes: None,
+        text,
+    })
+}
+
+/// The output for a file that passes a limit.
+fn limit(alloc: Global, which: Which, bit: u64) -> Result<Output, AllocError>
+    ensures status { IfOk result (λ output. output.status ≡ Status.Limit) }
+    ensures bytes { IfOk result (λ output. output.bytes ≡ None) }
+    ensures text { IfOk result (λ output. string_bytes output.text ≡ limit_line (limit_name which) bit) }
+{
+    let name = named_limit(which);
+    let text = format!(in alloc; "limit {name} bit {bit}\n")?;
+    Ok(Output {
+        status: Status::Limit,
+        bytes: None,
+        text,
+    })
+}
+
+/// The output for a file that is translated into these words.
+fn success(alloc: Global, words: &Words) -> Result<Output, AllocError>
+    ensures status { IfOk result (λ output. output.status ≡ Status.Done) }
+    ensures bytes { IfOk result (λ output. output.bytes ≡ Some (bytes_of_words words.now)) }
+    ensures text { IfOk result (λ output. string_bytes output.text ≡ translated_line (length words.now)) }
+{
+    let Ok(bytes) = bytes_of(alloc, words) else {
+        return Err(AllocError);
+    };
+    let count = words.len();
+    let text = format!(in alloc; "translated {count} words\n")?;
+    Ok(Output {
+        status: Status::Done,
+        bytes: Some(bytes),
+        text,
+    })
+}
+
+/// All that `translate` writes and says for a file of these bytes, at most 2^26.
+pub fn output_for(alloc: Global, bytes: &[u8]) -> Result<Output, AllocError>
+    requires { length bytes.now ≤ 2 ^ 26 }
+    ensures { IfOk result (λ output. IsOutput bytes.now output) }
+{
+    match translate(alloc, bytes) {
+        Ok(words) => success(alloc, &words),
+        Err(Fault::Refused { rule, bit }) => refusal(alloc, rule, bit),
+        Err(Fault::Limit { which, bit }) => limit(alloc, which, bit),
+        Err(Fault::OutOfMemory) => Err(AllocError),
+    }
+}

@@ -1,0 +1,187 @@
+//! Writes containers of one part whose bitcode has no abbreviations.
+
+ghost use Rattle.std.specs.Prelude.{◌≤◌};
+
+use std::alloc::{AllocError, Global};
+
+/// A record: its code and its fields.
+pub type Row<'a> = (u64, &'a [u64]);
+
+const TYPES: [Row<'static>; 5] = [(1, &[4]), (2, &[]), (21, &[0, 0]), (7, &[32]), (8, &[1, 0])];
+
+const METADATA: [Row<'static>; 16] = [
+    (1, &[99, 115]),
+    (2, &[2, 1]),
+    (2, &[2, 2]),
+    (3, &[1, 2, 3]),
+    (2, &[3, 0]),
+    (1, &[109, 97, 105, 110]),
+    (2, &[2, 3]),
+    (2, &[2, 4]),
+    (2, &[2, 5]),
+    (3, &[8, 7, 9]),
+    (3, &[7, 10]),
+    (3, &[5, 6, 0, 0, 11]),
+    (
+        4,
+        &[
+            100, 120, 46, 115, 104, 97, 100, 101, 114, 77, 111, 100, 101, 108,
+        ],
+    ),
+    (10, &[3]),
+    (
+        4,
+        &[
+            100, 120, 46, 101, 110, 116, 114, 121, 80, 111, 105, 110, 116, 115,
+        ],
+    ),
+    (10, &[11]),
+];
+
+const BODY: [Row<'static>; 2] = [(1, &[1]), (10, &[])];
+
+/// Bits in stream order.
+#[derive(Drop)]
+struct Bits {
+    all: Vec<bool>,
+}
+
+impl Bits {
+    fn new(alloc: Global) -> Self {
+        Bits {
+            all: Vec::new(alloc),
+        }
+    }
+
+    fn fixed(&mut self, value: u64, width: u32) -> Result<(), AllocError>
+        requires { width ≤ 64 }
+    {
+        for place in 0..width {
+            self.all.push((value >> place) % 2 == 1)?;
+        }
+        Ok(())
+    }
+
+    /// A number in chunks, each but the last with its top bit set.
+    fn chunks(&mut self, value: u64, width: u32) -> Result<(), AllocError>
+        requires low { 2 ≤ width }
+        requires high { width ≤ 32 }
+    {
+        let more = 1u64 << (width - 1);
+        let mut rest = value;
+        for _ in 0..64 {
+            if rest < more {
+                break;
+            }
+            self.fixed(rest % more + more, width)?;
+            rest /= more;
+        }
+        self.fixed(rest, width)
+    }
+
+    fn align(&mut self) -> Result<(), AllocError> {
+        for _ in 0..31 {
+            if self.all.len() % 32 == 0 {
+                break;
+            }
+            self.all.push(false)?;
+        }
+        Ok(())
+    }
+
+    fn record(&mut self, width: u32, row: Row) -> Result<(), AllocError>
+        requires { width ≤ 32 }
+    {
+        let (code, fields) = row;
+        self.fixed(3, width)?;
+        self.chunks(code, 6)?;
+        self.chunks(fields.len() as u64, 6)?;
+        for field in fields {
+            self.chunks(*field, 6)?;
+        }
+        Ok(())
+    }
+
+    /// A block of width 4 or, the module's, 3.
+    fn block(&mut self, outer: u32, id: u64, width: u32, content: Bits) -> Result<(), AllocError>
+        requires outer { outer ≤ 32 }
+        requires width { width ≤ 32 }
+    {
+        let mut content = content;
+        content.fixed(0, width)?;
+        content.align()?;
+        self.fixed(1, outer)?;
+        self.chunks(id, 8)?;
+        self.chunks(width as u64, 4)?;
+        self.align()?;
+        self.fixed(content.all.len() as u64 / 32, 32)?;
+        for bit in &content.all {
+            self.all.push(*bit)?;
+        }
+        Ok(())
+    }
+
+    /// The bytes of whole bytes of bits.
+    fn bytes(&self, alloc: Global) -> Result<Vec<u8>, AllocError> {
+        let mut bytes = Vec::new(alloc);
+        for eight in self.all.as_slice().chunks(8) {
+            let mut byte = 0u8;
+            for bit in eight {
+                byte = byte / 2 + if *bit { 128 } else { 0 };
+            }
+            bytes.push(byte)?;
+        }
+        Ok(bytes)
+    }
+}
+
+fn rows(alloc: Global, rows: &[Row]) -> Result<Bits, AllocError> {
+    let mut bits = Bits::new(alloc);
+    for row in rows {
+        bits.record(4, *row)?;
+    }
+    Ok(bits)
+}
+
+/// The container of the empty shader whose fourth and fifth INTEGER have these fields.
+pub fn shader(alloc: Global, fourth: u64, fifth: u64) -> Result<Vec<u8>, AllocError> {
+    let constants: [Row; 6] = [
+        (1, &[2]),
+        (4, &[12]),
+        (4, &[0]),
+        (4, &[8]),
+        (4, &[fourth]),
+        (4, &[fifth]),
+    ];
+    let mut module = Bits::new(alloc);
+    module.record(3, (1, &[1]))?;
+    module.block(3, 17, 4, rows(alloc, &TYPES)?)?;
+    module.record(3, (8, &[1, 0, 0, 0]))?;
+    module.block(3, 11, 4, rows(alloc, &constants)?)?;
+    module.block(3, 15, 4, rows(alloc, &METADATA)?)?;
+    module.block(3, 12, 4, rows(alloc, &BODY)?)?;
+    let mut bitcode = Bits::new(alloc);
+    bitcode.fixed(0xDEC0_4342, 32)?;
+    bitcode.block(2, 8, 3, module)?;
+    let size = bitcode.all.len() as u64 / 8;
+    let mut bits = Bits::new(alloc);
+    for number in [0x4342_5844, 0, 0, 0, 0, 1, size + 68, 1, 36] {
+        bits.fixed(number, 32)?;
+    }
+    for number in [
+        0x4C49_5844,
+        size + 24,
+        0x0005_0060,
+        size / 4 + 6,
+        0x4C49_5844,
+        0x100,
+        16,
+        size,
+    ] {
+        bits.fixed(number, 32)?;
+    }
+    for bit in &bitcode.all {
+        bits.all.push(*bit)?;
+    }
+    bits.bytes(alloc)
+}

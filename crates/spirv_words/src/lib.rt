@@ -1,0 +1,13 @@
+//! The words of a SPIR-V module, written and read.
+#![tactic(auto)]
+
+mod file_words;
+mod header;
+mod operands;
+mod read;
+#[cfg(test)]
+mod tests;
+mod write;
+
+pub use read::read_module;
+pub use write::write_module;
