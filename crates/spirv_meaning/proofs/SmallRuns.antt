@@ -1,7 +1,8 @@
 -- The small modules run as stated.
 use Rattle.std.proofs.Common.{refl}
+use Rattle.dxil_meaning.specs.Rows.{phi_swap}
 use Rattle.spirv_meaning.specs.Empty.{empty_program, empty_module}
-use Rattle.spirv_meaning.specs.Rows.{declarations, module_of, LabelIsSite, EmptyShaderEnds, EmptyShaderIsBusy, EmptyShaderBeginsBlock, GroupNumberIsStored, LastWordIsLoaded, PastTheEndIsUndefined, RowIsFourWords, SharedWordIsStored, AtomicMinimum, SignedMinimum, AtomicOfAnotherScopeIsUndefined, ControlBarrierSyncs, MemoryBarrierDoesNot, BarrierOfNobody, ArmsOfTwoKindsAreUndefined, ArmWithoutValueIsUndefined, ChosenArmIsStored, DivisionByZeroIsUndefined, LengthIsStored}
+use Rattle.spirv_meaning.specs.Rows.{declarations, module_of, swap_module, SwapStores, SwapIsBusy, SwapBeginsBlocks, LabelIsSite, EmptyShaderEnds, EmptyShaderIsBusy, EmptyShaderBeginsBlock, GroupNumberIsStored, LastWordIsLoaded, PastTheEndIsUndefined, RowIsFourWords, SharedWordIsStored, AtomicMinimum, SignedMinimum, AtomicOfAnotherScopeIsUndefined, ControlBarrierSyncs, MemoryBarrierDoesNot, BarrierOfNobody, ArmsOfTwoKindsAreUndefined, ArmWithoutValueIsUndefined, ChosenArmIsStored, DivisionByZeroIsUndefined, LengthIsStored}
 
 pub label_is_site : LabelIsSite
 unfolding empty_program empty_module
@@ -82,3 +83,15 @@ division_by_zero_is_undefined = refl
 pub length_is_stored : LengthIsStored
 unfolding module_of declarations
 length_is_stored = refl
+
+pub swap_stores : SwapStores
+unfolding swap_module module_of declarations
+swap_stores = refl
+
+pub swap_is_busy : SwapIsBusy
+unfolding swap_module module_of declarations
+swap_is_busy = refl
+
+pub swap_begins_blocks : SwapBeginsBlocks
+unfolding swap_module module_of declarations phi_swap
+swap_begins_blocks = (refl, refl)

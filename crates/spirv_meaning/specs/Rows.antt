@@ -10,8 +10,9 @@ use Rattle.spv_form.specs.declared.module.Module.{Module}
 use Rattle.dxil_meaning.specs.Launches as launch
 use Rattle.dxil_meaning.specs.Launches.{Event, Outcome, Complete, Ran}
 use Rattle.dxil_meaning.specs.Source.{Launch}
-use Rattle.dxil_meaning.specs.Rows.{Told, is_undefined, is_busy, is_complete, told, event, event_at, stores, loads, ends, filled}
+use Rattle.dxil_meaning.specs.Rows.{Told, is_undefined, is_busy, is_complete, told, event, event_at, stores, loads, ends, filled, run_of, phi_swap, launch_of}
 use Rattle.spirv_meaning.specs.Names.{site}
+use Rattle.spirv_meaning.specs.Target.{State}
 use Rattle.spirv_meaning.specs.Same.{target_run}
 use Rattle.spirv_meaning.specs.Empty.{inst, empty_program, empty_module}
 
@@ -177,3 +178,33 @@ DivisionByZeroIsUndefined = entry_of (inst 134 (4 ∷ 60 ∷ 33 ∷ 30 ∷ []) �
 abbrev pub LengthIsStored : Type 0
 LengthIsStored =
     entry_of (inst 68 (4 ∷ 60 ∷ 10 ∷ 0 ∷ []) ∷ word_pointer 61 30 ∷ inst 62 (61 ∷ 60 ∷ []) ∷ []) 3 ≡ is_complete (stores 0 4 ∷ [])
+
+-- ---- the swap of two phis
+
+-- A module of the program `phi_swap`. The Function variables 70, 71 and 72 hold what a, b and i take next, and 73 and 74 hold a and b for block 2; 20, 21 and 22 are the labels of the blocks 0, 1 and 2.
+unfoldable pub swap_module : Module
+swap_module =
+    record {
+      version = 0x10600;
+      bound = 100;
+      insts =
+          inst 5 (21 ∷ 0x3162 ∷ []) ∷
+          inst 5 (22 ∷ 0x3262 ∷ []) ∷
+          inst 32 (52 ∷ 7 ∷ 4 ∷ []) ∷
+          (module_of (inst 59 (52 ∷ 70 ∷ 7 ∷ 30 ∷ []) ∷ inst 59 (52 ∷ 71 ∷ 7 ∷ 30 ∷ []) ∷ inst 59 (52 ∷ 72 ∷ 7 ∷ 30 ∷ []) ∷ inst 59 (52 ∷ 73 ∷ 7 ∷ 30 ∷ []) ∷ inst 59 (52 ∷ 74 ∷ 7 ∷ 30 ∷ []) ∷ inst 62 (70 ∷ 31 ∷ []) ∷ inst 62 (71 ∷ 32 ∷ []) ∷ inst 62 (72 ∷ 30 ∷ []) ∷ inst 249 (21 ∷ []) ∷ inst 248 (21 ∷ []) ∷ inst 61 (4 ∷ 80 ∷ 70 ∷ []) ∷ inst 61 (4 ∷ 81 ∷ 71 ∷ []) ∷ inst 61 (4 ∷ 82 ∷ 72 ∷ []) ∷ inst 62 (73 ∷ 80 ∷ []) ∷ inst 62 (74 ∷ 81 ∷ []) ∷ inst 128 (4 ∷ 83 ∷ 82 ∷ 31 ∷ []) ∷ inst 176 (5 ∷ 84 ∷ 83 ∷ 33 ∷ []) ∷ inst 62 (70 ∷ 81 ∷ []) ∷ inst 62 (71 ∷ 80 ∷ []) ∷ inst 62 (72 ∷ 83 ∷ []) ∷ inst 246 (22 ∷ 21 ∷ 0 ∷ []) ∷ inst 250 (84 ∷ 21 ∷ 22 ∷ []) ∷ inst 248 (22 ∷ []) ∷ word_pointer 85 30 ∷ inst 61 (4 ∷ 86 ∷ 73 ∷ []) ∷ inst 62 (85 ∷ 86 ∷ []) ∷ word_pointer 87 31 ∷ inst 61 (4 ∷ 88 ∷ 74 ∷ []) ∷ inst 62 (87 ∷ 88 ∷ []) ∷ [])).insts;
+    }
+
+abbrev pub swap_run : ℕ → Outcome (Ran State)
+swap_run n = target_run three_memories swap_module three_groups (filled 9) (1 ∷ 1 ∷ 1 ∷ []) n
+
+-- the first entry takes 54 steps to its store, where the program takes 14
+abbrev pub SwapStores : Type 0
+SwapStores = told (swap_run 54) ≡ is_complete (stores 0 1 ∷ stores 1 2 ∷ ends ∷ [])
+
+abbrev pub SwapIsBusy : Type 0
+SwapIsBusy = told (swap_run 53) ≡ is_busy
+
+-- the blocks that it begins are those that the program begins, the newest first
+abbrev pub SwapBeginsBlocks : Type 0
+SwapBeginsBlocks =
+    (walk_of 1 (swap_run 54) ≡ 2 ∷ 1 ∷ 1 ∷ 1 ∷ 0 ∷ []) × (walk_of 0 (run_of phi_swap (launch_of 2) (filled 9) 14 (0 ∷ 0 ∷ 0 ∷ [])) ≡ 2 ∷ 1 ∷ 1 ∷ 1 ∷ 0 ∷ [])

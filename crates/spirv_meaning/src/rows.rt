@@ -1,6 +1,6 @@
-ghost use Rattle.spirv_meaning.specs.Rows.{ArmWithoutValueIsUndefined, ArmsOfTwoKindsAreUndefined, AtomicMinimum, AtomicOfAnotherScopeIsUndefined, BarrierOfNobody, ChosenArmIsStored, ControlBarrierSyncs, DivisionByZeroIsUndefined, EmptyShaderBeginsBlock, EmptyShaderEnds, EmptyShaderIsBusy, GroupNumberIsStored, LabelIsSite, LastWordIsLoaded, LengthIsStored, MemoryBarrierDoesNot, PastTheEndIsUndefined, RowIsFourWords, SharedWordIsStored, SignedMinimum};
+ghost use Rattle.spirv_meaning.specs.Rows.{ArmWithoutValueIsUndefined, ArmsOfTwoKindsAreUndefined, AtomicMinimum, AtomicOfAnotherScopeIsUndefined, BarrierOfNobody, ChosenArmIsStored, ControlBarrierSyncs, DivisionByZeroIsUndefined, EmptyShaderBeginsBlock, EmptyShaderEnds, EmptyShaderIsBusy, GroupNumberIsStored, LabelIsSite, LastWordIsLoaded, LengthIsStored, MemoryBarrierDoesNot, PastTheEndIsUndefined, RowIsFourWords, SharedWordIsStored, SignedMinimum, SwapBeginsBlocks, SwapIsBusy, SwapStores};
 
-/// What small modules do, by the definitions: the empty shader, accesses of each kind of memory, barriers, selects and divisions.
+/// What small modules do, by the definitions: the empty shader, accesses of each kind of memory, barriers, selects, divisions, and the swap of two phis.
 ///
 /// The function does nothing: it is a theorem, which its contract states.
 pub fn worked_rows()
@@ -24,4 +24,7 @@ pub fn worked_rows()
     ensures chosen_arm_is_stored { ChosenArmIsStored }
     ensures division_by_zero_is_undefined { DivisionByZeroIsUndefined }
     ensures length_is_stored { LengthIsStored }
+    ensures swap_stores { SwapStores }
+    ensures swap_is_busy { SwapIsBusy }
+    ensures swap_begins_blocks { SwapBeginsBlocks }
 {}
