@@ -1,0 +1,10 @@
+//! The container of a compiled shader, and its parts.
+#![tactic(auto)]
+
+mod part;
+mod read;
+#[cfg(test)]
+mod tests;
+
+pub use part::{Part, PartList, Parts};
+pub use read::read_container;
