@@ -101,12 +101,13 @@ module _ (edges : List Edge) (chosen : List Bool) (cells : List Cell) (ff ft : L
     }
 
     pub made_kept : length ff ≡ n → length ft ≡ n → (marks : List Bool) (queue : List ℕ) → length marks ≡ n → length queue ≡ n
-        → Kept (replicate n true) ff ft cells marks queue
-    made_kept ef et marks queue em eq = record {
+        → ((b : ℕ) → get_or marks b false ≡ false) → Kept (replicate n true) ff ft cells marks queue
+    made_kept ef et marks queue em eq no_marks = record {
       from_count = ef ∙ sym (length-replicate n true);
       to_count = et ∙ sym (length-replicate n true);
       sound = made_sound n ef et w;
       ends = λ x y k. (live_at x (ends x y k).0, live_at y (ends x y k).1);
       marks_count = em ∙ sym (length-replicate n true);
       queue_count = eq ∙ sym (length-replicate n true);
+      clean = no_marks;
     }

@@ -108,16 +108,18 @@ module _ (live : List Bool) (ff ft : List (Option ℕ)) (cells : List Cell) (mar
     ends = λ x y i. k.ends x y ((e x y).0 i).0;
     marks_count = k.marks_count;
     queue_count = k.queue_count;
+    clean = k.clean;
   }
 
-  pub kept_merged : (new_marks : List Bool) → length new_marks ≡ length marks → (a j : ℕ) → get_or live a false ≡ true → Merged a j cells new → Kept (set live j false) gf gt new new_marks queue
-  kept_merged new_marks em a j la m = record {
+  pub kept_merged : (new_marks : List Bool) → length new_marks ≡ length marks → ((b : ℕ) → get_or new_marks b false ≡ false) → (a j : ℕ) → get_or live a false ≡ true → Merged a j cells new → Kept (set live j false) gf gt new new_marks queue
+  kept_merged new_marks em clean a j la m = record {
     from_count = ef ∙ k.from_count ∙ sym len;
     to_count = et ∙ k.to_count ∙ sym len;
     sound = s;
     ends = λ x y i. ends x y ((m x y).0 i);
     marks_count = em ∙ k.marks_count ∙ sym len;
     queue_count = k.queue_count ∙ sym len;
+    clean = clean;
   }
     where
       len : length (set live j false) ≡ length live

@@ -24,7 +24,7 @@ abbrev pub edges_of : List Cell → List (ℕ × ℕ)
 edges_of [] = []
 edges_of (c ∷ cs) = cond c.used ((c.from, c.to) ∷ edges_of cs) (edges_of cs)
 
--- what a graph keeps: both kinds of lists state the same edges, once each, between live nodes, and the scratch has a place for each node
+-- what a graph keeps: both kinds of lists state the same edges, once each, between live nodes, and the scratch has a place for each node and no mark
 pub record Kept (live : List Bool) (first_from first_to : List (Option ℕ)) (cells : List Cell) (marks : List Bool) (queue : List ℕ) : Type 0 where
   pub from_count : length first_from ≡ length live
   pub to_count : length first_to ≡ length live
@@ -32,3 +32,4 @@ pub record Kept (live : List Bool) (first_from first_to : List (Option ℕ)) (ce
   pub ends : (x y : ℕ) → Joining cells x y → (get_or live x false ≡ true) × (get_or live y false ≡ true)
   pub marks_count : length marks ≡ length live
   pub queue_count : length queue ≡ length live
+  pub clean : (b : ℕ) → get_or marks b false ≡ false

@@ -6,7 +6,7 @@ ghost use Rattle.flow_graph.specs.Links.{IsLast, IsAbove, leaves, enters, cell_a
 ghost use Rattle.flow_graph.specs.Changes.{SameButFrom, SameButTo, Without, Relabelled, Ended, Between, Merged};
 ghost use Rattle.flow_graph.specs.Walked.{marked};
 
-use crate::walks::mark_targets;
+use crate::walks::{clear, mark_targets};
 
 /// An edge, with the next edge of its source and the next edge of its target.
 #[derive(Clone, Copy, Drop)]
@@ -265,10 +265,12 @@ pub(crate) fn merge(
     requires sound { Sound cells.old first_from.old first_to.old }
     ensures sound { Sound cells.new first_from.new first_to.new }
     ensures merged { Merged a j cells.old cells.new }
+    ensures clean { (b : ℕ) → marked marks.new b ≡ false }
 {
     end_edge(cells, first_from, first_to, a, j);
     mark_targets(cells, first_from, marks, a);
     take_over(cells, first_from, first_to, marks, a, j);
+    clear(marks);
 }
 
 /// The node from which all edges to `j` come, if it is another than `j`.
