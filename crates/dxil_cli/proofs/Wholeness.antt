@@ -7,12 +7,12 @@ use Rattle.dx_bitstream.specs.Framed.{open_after, open_behind, IsFramed}
 use Rattle.dx_bitstream.specs.declared.item.Item.{Item}
 use Rattle.dx_bitstream.specs.declared.item.Item.TheVariants.{Enter, Record, Skip, End}
 use Rattle.dxil_cli.specs.FirstFailing.{HoldsThroughout}
-use Rattle.dxil_cli.specs.EmptyShader.{Expected, enters, row, thread_count, ends, empty_shader, first_count, third_count, counts_node, IsAs, Fits}
+use Rattle.dxil_cli.specs.EmptyShader.{Expected, enters, states, thread_count, ends, empty_shader, first_count, third_count, counts_node, IsAs, Fits}
 
 -- the ids of the open blocks behind an item as the list has it
 abbrev open_expected : List ℕ → Expected → List ℕ
 open_expected ids (enters id) = id ∷ ids
-open_expected ids (row code fields) = ids
+open_expected ids (states code fields) = ids
 open_expected ids thread_count = ids
 open_expected ids ends = rest_of ids
 
@@ -25,10 +25,10 @@ same_open fs ids (enters id) (Enter other width bit) h = ap (λ (n : ℕ). n ∷
 same_open fs ids (enters id) (Record code first count bit) h = absurd h
 same_open fs ids (enters id) (Skip other words bit) h = absurd h
 same_open fs ids (enters id) (End bit) h = absurd h
-same_open fs ids (row code fields) (Enter other width bit) h = absurd h
-same_open fs ids (row code fields) (Record other first count bit) h = refl
-same_open fs ids (row code fields) (Skip other words bit) h = absurd h
-same_open fs ids (row code fields) (End bit) h = absurd h
+same_open fs ids (states code fields) (Enter other width bit) h = absurd h
+same_open fs ids (states code fields) (Record other first count bit) h = refl
+same_open fs ids (states code fields) (Skip other words bit) h = absurd h
+same_open fs ids (states code fields) (End bit) h = absurd h
 same_open fs ids thread_count (Enter other width bit) h = absurd h
 same_open fs ids thread_count (Record other first count bit) h = refl
 same_open fs ids thread_count (Skip other words bit) h = absurd h
@@ -116,5 +116,5 @@ whole_length is fs f h = elim (cases_lt (length is) (length empty_shader)) [
   cut (suc n) p l e = stays_open [] empty_shader n shader_stays (omega arith) e
 
 -- what stands at the named places of the list
-pub named_places : (slice_get empty_shader first_count ≡ Some thread_count) × (slice_get empty_shader third_count ≡ Some thread_count) × (slice_get empty_shader counts_node ≡ Some (row 3 (8 ∷ 7 ∷ 9 ∷ [])))
+pub named_places : (slice_get empty_shader first_count ≡ Some thread_count) × (slice_get empty_shader third_count ≡ Some thread_count) × (slice_get empty_shader counts_node ≡ Some (states 3 (8 ∷ 7 ∷ 9 ∷ [])))
 named_places = (refl, refl, refl)

@@ -3,14 +3,14 @@ use Rattle.std.specs.Prelude.{ℕ, ◌≡◌, ◌*◌, ◌^◌, ◌<◌, [], ◌
 use Rattle.dx_bitstream.specs.Framed.{bit_of, LiesIn}
 use Rattle.dx_bitstream.specs.declared.item.Item.{Item}
 use Rattle.dxil_cli.specs.FirstFailing.{IsFirstFailing, HoldsThroughout}
-use Rattle.dxil_cli.specs.EmptyShader.{Expected, enters, row, thread_count, ends, counts_node, IsAs, Fits, IsCount}
+use Rattle.dxil_cli.specs.EmptyShader.{Expected, enters, states, thread_count, ends, counts_node, IsAs, Fits, IsCount}
 use Rattle.dxil_cli.specs.declared.empty_shader.Known.{Known}
 use Rattle.dxil_cli.specs.declared.empty_shader.Known.TheVariants as known
 
 -- an entry of the code's table
 abbrev pub seen : Known → Expected
 seen (known.Enter id) = enters id
-seen (known.Row code fields) = row code fields.now
+seen (known.Row code fields) = states code fields.now
 seen known.ThreadCount = thread_count
 seen known.End = ends
 

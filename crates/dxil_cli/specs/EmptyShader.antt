@@ -37,7 +37,7 @@ bitcode = 544
 -- An item as the empty shader has it: a block's entry, a record with its code and fields, an INTEGER record of a thread count, or a block's end.
 pub data Expected : Type 0 where
   enters : ℕ → Expected
-  row : ℕ → List ℕ → Expected
+  states : ℕ → List ℕ → Expected
   thread_count : Expected
   ends : Expected
 
@@ -45,14 +45,14 @@ pub data Expected : Type 0 where
 -- the fifth are the first and the third thread count; the metadata; and the function's body, one return.
 abbrev pub empty_shader : List Expected
 empty_shader =
-    enters 8 ∷ row 1 (1 ∷ [])
-    ∷ enters 17 ∷ row 1 (4 ∷ []) ∷ row 2 [] ∷ row 21 (0 ∷ 0 ∷ []) ∷ row 7 (32 ∷ []) ∷ row 8 (1 ∷ 0 ∷ []) ∷ ends
-    ∷ row 8 (1 ∷ 0 ∷ 0 ∷ 0 ∷ [])
-    ∷ enters 11 ∷ row 1 (2 ∷ []) ∷ row 4 (12 ∷ []) ∷ row 4 (0 ∷ []) ∷ row 4 (8 ∷ []) ∷ thread_count ∷ thread_count ∷ ends
-    ∷ enters 15 ∷ row 1 (codes "cs") ∷ row 2 (2 ∷ 1 ∷ []) ∷ row 2 (2 ∷ 2 ∷ []) ∷ row 3 (1 ∷ 2 ∷ 3 ∷ []) ∷ row 2 (3 ∷ 0 ∷ [])
-    ∷ row 1 (codes "main") ∷ row 2 (2 ∷ 3 ∷ []) ∷ row 2 (2 ∷ 4 ∷ []) ∷ row 2 (2 ∷ 5 ∷ []) ∷ row 3 (8 ∷ 7 ∷ 9 ∷ []) ∷ row 3 (7 ∷ 10 ∷ [])
-    ∷ row 3 (5 ∷ 6 ∷ 0 ∷ 0 ∷ 11 ∷ []) ∷ row 4 (codes "dx.shaderModel") ∷ row 10 (3 ∷ []) ∷ row 4 (codes "dx.entryPoints") ∷ row 10 (11 ∷ []) ∷ ends
-    ∷ enters 12 ∷ row 1 (1 ∷ []) ∷ row 10 [] ∷ ends
+    enters 8 ∷ states 1 (1 ∷ [])
+    ∷ enters 17 ∷ states 1 (4 ∷ []) ∷ states 2 [] ∷ states 21 (0 ∷ 0 ∷ []) ∷ states 7 (32 ∷ []) ∷ states 8 (1 ∷ 0 ∷ []) ∷ ends
+    ∷ states 8 (1 ∷ 0 ∷ 0 ∷ 0 ∷ [])
+    ∷ enters 11 ∷ states 1 (2 ∷ []) ∷ states 4 (12 ∷ []) ∷ states 4 (0 ∷ []) ∷ states 4 (8 ∷ []) ∷ thread_count ∷ thread_count ∷ ends
+    ∷ enters 15 ∷ states 1 (codes "cs") ∷ states 2 (2 ∷ 1 ∷ []) ∷ states 2 (2 ∷ 2 ∷ []) ∷ states 3 (1 ∷ 2 ∷ 3 ∷ []) ∷ states 2 (3 ∷ 0 ∷ [])
+    ∷ states 1 (codes "main") ∷ states 2 (2 ∷ 3 ∷ []) ∷ states 2 (2 ∷ 4 ∷ []) ∷ states 2 (2 ∷ 5 ∷ []) ∷ states 3 (8 ∷ 7 ∷ 9 ∷ []) ∷ states 3 (7 ∷ 10 ∷ [])
+    ∷ states 3 (5 ∷ 6 ∷ 0 ∷ 0 ∷ 11 ∷ []) ∷ states 4 (codes "dx.shaderModel") ∷ states 10 (3 ∷ []) ∷ states 4 (codes "dx.entryPoints") ∷ states 10 (11 ∷ []) ∷ ends
+    ∷ enters 12 ∷ states 1 (1 ∷ []) ∷ states 10 [] ∷ ends
     ∷ ends ∷ []
 
 -- the places of the first and the third thread count in that list, and of the node [8 7 9] of the three counts
@@ -81,7 +81,7 @@ pub record IsCount (fields : List ℕ) : Type 0 where
 -- an item is as expected, whatever its bit and a block's width
 abbrev pub IsAs : List ℕ → Expected → Item → Type 0
 IsAs fs (enters id) (Enter other width bit) = other ≡ id
-IsAs fs (row code fields) (Record other first count bit) = (other ≡ code) × (take count (drop first fs) ≡ fields)
+IsAs fs (states code fields) (Record other first count bit) = (other ≡ code) × (take count (drop first fs) ≡ fields)
 IsAs fs thread_count (Record other first count bit) = (other ≡ 4) × IsCount (take count (drop first fs))
 IsAs fs ends (End bit) = Unit {0}
 IsAs fs _ _ = ⊥

@@ -142,7 +142,7 @@ fn is_end(item: &Item) -> bool
 
 fn is_row(fields: &[u64], item: &Item, code: u64, row: &[u64]) -> bool
     requires { LiesIn fields.now item.now }
-    ensures { IsTrue result ↔ IsAs fields.now (expected.row code row.now) item.now }
+    ensures { IsTrue result ↔ IsAs fields.now (expected.states code row.now) item.now }
 {
     match item {
         Item::Record {

@@ -125,7 +125,7 @@ LastWordIsLoaded =
 abbrev pub PastTheEndIsUndefined : Type 0
 PastTheEndIsUndefined = entry_of (word_pointer 60 34 ∷ inst 61 (4 ∷ 61 ∷ 60 ∷ []) ∷ []) 2 ≡ is_undefined
 
--- row 1, component 2 of the constant buffer is its word 6
+-- component 2 of the second row of a constant buffer is its word 6
 abbrev pub RowIsFourWords : Type 0
 RowIsFourWords =
     entry_of (inst 65 (15 ∷ 60 ∷ 40 ∷ 30 ∷ 31 ∷ 32 ∷ []) ∷ inst 61 (4 ∷ 61 ∷ 60 ∷ []) ∷ []) 2 ≡ is_complete (event (launch.Load (launch.Buffer 1 6)) 9 ∷ [])
