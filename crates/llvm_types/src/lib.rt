@@ -1,0 +1,11 @@
+//! The type table of a module.
+#![tactic(auto)]
+
+mod kind;
+mod read;
+mod table;
+#[cfg(test)]
+mod tests;
+
+pub use kind::{LlvmType, TypeList, Types};
+pub use read::read_types;
