@@ -1,6 +1,10 @@
 ghost use Rattle.std.specs.Prelude.{◌≡◌, ◌<◌, ◌≤◌, get_or, ◌^◌, All, IfOk, length, drop};
 ghost use Rattle.llvm_types.specs.Types.{type_of, type_numbers as numbers_in, least_of};
 
+use crate::code::{
+    ARRAY, DOUBLE, FLOAT, FUNCTION, HALF, INTEGER, LABEL, METADATA, OPAQUE, POINTER, STRUCT_ANON,
+    STRUCT_NAMED, VECTOR,
+};
 use crate::table::type_numbers;
 use dx_base::{List, Numbers, OutOfMemory};
 use std::alloc::Global;
@@ -116,28 +120,27 @@ pub fn kind_of(alloc: Global, code: u64, fields: &[u64]) -> Result<LlvmType, Out
 {
     let types = type_numbers(code, fields);
     match code {
-        3 => Ok(LlvmType::Float),
-        4 => Ok(LlvmType::Double),
-        5 => Ok(LlvmType::Label),
-        6 => Ok(LlvmType::Opaque),
-        7 => Ok(LlvmType::Integer(field_at(fields, 0))),
-        8 => Ok(LlvmType::Pointer {
+        FLOAT => Ok(LlvmType::Float),
+        DOUBLE => Ok(LlvmType::Double),
+        LABEL => Ok(LlvmType::Label),
+        OPAQUE => Ok(LlvmType::Opaque),
+        INTEGER => Ok(LlvmType::Integer(field_at(fields, 0))),
+        POINTER => Ok(LlvmType::Pointer {
             to: first_of(types),
             space: field_at(fields, 1),
         }),
-        10 => Ok(LlvmType::Half),
-        11 => Ok(LlvmType::Array {
+        HALF => Ok(LlvmType::Half),
+        ARRAY => Ok(LlvmType::Array {
             count: field_at(fields, 0),
             of: first_of(types),
         }),
-        12 => Ok(LlvmType::Vector {
+        VECTOR => Ok(LlvmType::Vector {
             count: field_at(fields, 0),
             of: first_of(types),
         }),
-        16 => Ok(LlvmType::Metadata),
-        18 => struct_of(alloc, types),
-        20 => struct_of(alloc, types),
-        21 => function_of(alloc, field_at(fields, 0) > 0, types),
+        METADATA => Ok(LlvmType::Metadata),
+        STRUCT_ANON | STRUCT_NAMED => struct_of(alloc, types),
+        FUNCTION => function_of(alloc, field_at(fields, 0) > 0, types),
         _ => Ok(LlvmType::Void),
     }
 }

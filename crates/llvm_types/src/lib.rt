@@ -1,6 +1,7 @@
 //! The type table of a module.
 #![tactic(auto)]
 
+mod code;
 mod kind;
 mod read;
 mod table;

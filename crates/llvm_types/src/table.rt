@@ -3,17 +3,19 @@ ghost use Rattle.std.specs.List.{list_all};
 ghost use Rattle.llvm_types.specs.Types.{takes_number as takes, is_listed as listed, least_of as least, type_numbers as numbers_in};
 ghost use Rattle.llvm_types.specs.Reading.{IsFirstRule};
 
-/// Codes of the records in a block of types.
-const NUMENTRY: u64 = 1;
-
-const STRUCT_NAME: u64 = 19;
+use crate::code::{
+    ARRAY, DOUBLE, FLOAT, FUNCTION, HALF, INTEGER, LABEL, METADATA, NUMENTRY, OPAQUE, POINTER,
+    STRUCT_ANON, STRUCT_NAME, STRUCT_NAMED, VECTOR, VOID,
+};
 
 /// Whether a record of this code takes a type number.
 pub fn takes_number(code: u64) -> bool
     ensures { result ≡ takes code }
 {
     match code {
-        2 | 3 | 4 | 5 | 6 | 7 | 8 | 10 | 11 | 12 | 16 | 18 | 20 | 21 => true,
+        VOID | FLOAT | DOUBLE | LABEL | OPAQUE | HALF | METADATA => true,
+        INTEGER | POINTER | ARRAY | VECTOR => true,
+        STRUCT_ANON | STRUCT_NAMED | FUNCTION => true,
         _ => false,
     }
 }
@@ -30,13 +32,8 @@ fn least_of(code: u64) -> usize
     ensures { result ≡ least code }
 {
     match code {
-        7 => 1,
-        8 => 2,
-        11 => 2,
-        12 => 2,
-        18 => 1,
-        20 => 1,
-        21 => 2,
+        INTEGER | STRUCT_ANON | STRUCT_NAMED => 1,
+        POINTER | ARRAY | VECTOR | FUNCTION => 2,
         _ => 0,
     }
 }
@@ -47,12 +44,9 @@ pub fn type_numbers(code: u64, fields: &[u64]) -> &[u64]
     ensures { result.now ≡ numbers_in code fields.now }
 {
     match code {
-        8 => &fields[..1],
-        11 => &fields[1..2],
-        12 => &fields[1..2],
-        18 => &fields[1..],
-        20 => &fields[1..],
-        21 => &fields[1..],
+        POINTER => &fields[..1],
+        ARRAY | VECTOR => &fields[1..2],
+        STRUCT_ANON | STRUCT_NAMED | FUNCTION => &fields[1..],
         _ => &fields[..0],
     }
 }
