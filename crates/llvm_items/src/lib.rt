@@ -1,0 +1,10 @@
+//! Where the items of a bitstream stand: the blocks that are open around each, and the fields of each record.
+#![tactic(auto)]
+
+mod blocks;
+mod item;
+#[cfg(test)]
+mod tests;
+
+pub use blocks::OpenBlocks;
+pub use item::{bit_of, fields_of};

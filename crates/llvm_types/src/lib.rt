@@ -1,0 +1,12 @@
+//! The type table of a module.
+#![tactic(auto)]
+
+mod code;
+mod kind;
+mod read;
+mod table;
+#[cfg(test)]
+mod tests;
+
+pub use kind::{LlvmType, TypeList, Types};
+pub use read::read_types;
