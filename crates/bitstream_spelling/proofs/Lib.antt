@@ -1,0 +1,4 @@
+pub mod Forward
+pub mod FramedLaws
+pub mod Fronts
+pub mod Unique
