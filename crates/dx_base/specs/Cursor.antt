@@ -33,6 +33,11 @@ abbrev pub AlignAnswer : Option (Unit {0}) → Cursor → Cursor → Type 0
 AlignAnswer (Some _) old new = (aligned old ≤ old.end) × (new ≡ moved old (aligned old))
 AlignAnswer None old new = (old.end < aligned old) × (new ≡ old)
 
+-- a move by so many bits
+abbrev pub ForwardAnswer : Option (Unit {0}) → Cursor → Cursor → ℕ → Type 0
+ForwardAnswer (Some _) old new bits = (old.place + bits ≤ old.end) × (new ≡ moved old (old.place + bits))
+ForwardAnswer None old new bits = (old.end < old.place + bits) × (new ≡ old)
+
 -- every vbr of width w at bit i passes the end
 pub record NoVbr (bytes : List ℕ) (end i w : ℕ) : Type 0 where
   pub none : (n after : ℕ) → IsVbr bytes w i n after → end < after

@@ -102,7 +102,7 @@ fn bits_at(bytes: &[u8], at: u64, width: u32) -> u64
 
 impl<'a> BitCursor<'a> {
     ghost use Rattle.std.specs.Prelude.{◌≡◌, ◌≤◌, ◌<◌, ◌^◌, ◌%◌, ◌*◌, ◌+◌, length, IfSome};
-    ghost use Rattle.dx_base.specs.Cursor.{moved, aligned, FixedAnswer, VbrAnswer, Char6Answer, AlignAnswer, PassAnswer};
+    ghost use Rattle.dx_base.specs.Cursor.{moved, aligned, FixedAnswer, VbrAnswer, Char6Answer, AlignAnswer, ForwardAnswer, PassAnswer};
 
     /// A cursor at `from`, over the bits up to `to`.
     pub fn new(bytes: &'a [u8], from: u64, to: u64) -> BitCursor<'a>
@@ -195,6 +195,17 @@ impl<'a> BitCursor<'a> {
             return None;
         }
         self.place += step;
+        Some(())
+    }
+
+    /// Moves forward by so many bits in one step; where fewer are left, None, and the cursor stays.
+    pub fn forward(&mut self, bits: u64) -> Option<()>
+        ensures { ForwardAnswer result self.old self.new bits }
+    {
+        if bits > self.end - self.place {
+            return None;
+        }
+        self.place += bits;
         Some(())
     }
 }

@@ -24,6 +24,14 @@ fn a_small_stream_is_read_bit_by_bit(rt: HostRuntime) -> Result<(), Fail> {
     assert_eq!(rt; cursor.align(), Some(()));
     assert_eq!(rt; cursor.at(), 128);
     assert_eq!(rt; cursor.fixed(1), None);
+    let mut other = BitCursor::new(&STREAM, 32, 128);
+    assert_eq!(rt; other.forward(97), None);
+    assert_eq!(rt; other.at(), 32);
+    assert_eq!(rt; other.forward(64), Some(()));
+    assert_eq!(rt; other.fixed(3), Some(3));
+    assert_eq!(rt; other.forward(29), Some(()));
+    assert_eq!(rt; other.forward(1), None);
+    assert_eq!(rt; other.at(), 128);
     Ok(())
 }
 
