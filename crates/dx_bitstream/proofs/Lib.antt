@@ -1,4 +1,0 @@
-pub mod FramedLaws
-pub mod Fronts
-pub mod Steps
-pub mod Values
