@@ -1,8 +1,8 @@
 -- Sites of the first items of a list, and of one item more.
 use Rattle.std.proofs.Common.{ℕ, ◌≡◌, refl, ap, List, [], ◌∷◌, ◌++◌, length, take, slice_get, Some, None, zero, suc}
 use Rattle.dx_base.specs.First.{Rises}
-use Rattle.dx_bitstream.specs.Framed.{open_after, open_behind, IsFramed}
-use Rattle.dx_bitstream.specs.declared.item.Item.{Item}
+use Rattle.bitstream_spelling.specs.Framed.{open_after, open_behind, IsFramed}
+use Rattle.bitstream_spelling.specs.declared.item.Item.{Item}
 use Rattle.llvm_items.specs.Sites.{Site, sites, sites_from, bit_at}
 
 none_some : {A : Type 0} (x : A) → None ≡ Some x → ⊥

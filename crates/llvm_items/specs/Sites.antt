@@ -1,8 +1,8 @@
 -- Where an item stands: the blocks that are open around it.
 use Rattle.std.specs.Prelude.{ℕ, ◌==◌, ◌&&◌, List, [], ◌∷◌, length, take, drop, get_or, Bool, true, false}
-use Rattle.dx_bitstream.specs.Framed.{bit_of, open_after}
-use Rattle.dx_bitstream.specs.declared.item.Item.{Item}
-use Rattle.dx_bitstream.specs.declared.item.Item.TheVariants.{Enter, Record, Skip, End}
+use Rattle.bitstream_spelling.specs.Framed.{bit_of, open_after}
+use Rattle.bitstream_spelling.specs.declared.item.Item.{Item}
+use Rattle.bitstream_spelling.specs.declared.item.Item.TheVariants.{Enter, Record, Skip, End}
 
 -- an item, and the ids of the blocks that are open before it, from the innermost out
 pub record Site : Type 0 where

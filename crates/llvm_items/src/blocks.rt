@@ -1,9 +1,9 @@
 ghost use Rattle.std.specs.Prelude.{◌≡◌, [], OnOk, OnErr};
-ghost use Rattle.dx_bitstream.specs.Framed.{open_after};
+ghost use Rattle.bitstream_spelling.specs.Framed.{open_after};
 ghost use Rattle.llvm_items.specs.Sites.{is_module, is_within, is_record_of, enters, ends_module};
 
 use dx_base::OutOfMemory;
-use dx_bitstream::Item;
+use bitstream_spelling::Item;
 use std::alloc::Global;
 use std::marker::Model;
 

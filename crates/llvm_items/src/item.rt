@@ -1,8 +1,8 @@
 ghost use Rattle.std.specs.Prelude.{◌≡◌};
-ghost use Rattle.dx_bitstream.specs.Framed.{LiesIn, bit_of as bit_number};
+ghost use Rattle.bitstream_spelling.specs.Framed.{LiesIn, bit_of as bit_number};
 ghost use Rattle.llvm_items.specs.Sites.{fields_of as fields_in};
 
-use dx_bitstream::Item;
+use bitstream_spelling::Item;
 
 /// The first bit of an item's abbreviation id.
 pub fn bit_of(item: Item) -> u64

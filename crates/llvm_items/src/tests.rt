@@ -1,7 +1,7 @@
 //! The blocks that are open along a short list of items.
 
 use crate::{OpenBlocks, bit_of, fields_of};
-use dx_bitstream::Item;
+use bitstream_spelling::Item;
 use std::test::Fail;
 
 #[test]

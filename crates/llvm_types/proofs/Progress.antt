@@ -9,8 +9,8 @@ use Rattle.dx_base.specs.First.{IsFirst, IsSound, IsClear}
 use Rattle.dx_base.specs.Sentences.{first_that_holds, Stated}
 use Rattle.dx_base.proofs.FirstLaws.{clear_none, clear_more, first_here, sound_of}
 use Rattle.dx_base.proofs.SentenceLaws.{least_stated, none_stated}
-use Rattle.dx_bitstream.specs.Framed.{IsFramed, bit_of, open_after, open_behind}
-use Rattle.dx_bitstream.specs.declared.item.Item.{Item}
+use Rattle.bitstream_spelling.specs.Framed.{IsFramed, bit_of, open_after, open_behind}
+use Rattle.bitstream_spelling.specs.declared.item.Item.{Item}
 use Rattle.llvm_items.specs.Sites.{Site, sites, enters, code_of, fields_of, bit_at}
 use Rattle.llvm_items.proofs.SiteLaws.{sites-append, behind-append, take-sites, site-at, length-sites, sites-rise}
 use Rattle.llvm_types.specs.Types.{is_numbered, numbered, types_of, type_of}

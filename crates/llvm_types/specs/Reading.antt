@@ -2,8 +2,8 @@
 use Rattle.std.specs.Prelude.{ℕ, ◌≡◌, ◌<◌, List, [], ◌∷◌, ◌++◌, ◌||◌, Bool, if◌then◌else◌, Result, Ok, Err, Option, Some, None}
 use Rattle.std.specs.List.{list_any}
 use Rattle.llvm_items.specs.Sites.{Site, sites, enters, code_of, fields_of}
-use Rattle.dx_bitstream.specs.Framed.{bit_of, open_after, open_behind}
-use Rattle.dx_bitstream.specs.declared.item.Item.{Item}
+use Rattle.bitstream_spelling.specs.Framed.{bit_of, open_after, open_behind}
+use Rattle.bitstream_spelling.specs.declared.item.Item.{Item}
 use Rattle.dx_base.specs.declared.fault.Fault.{Fault}
 use Rattle.dx_base.specs.declared.fault.Fault.TheVariants.{Refused, OutOfMemory}
 use Rattle.dx_base.specs.declared.fault.Rule.TheVariants.{Y}

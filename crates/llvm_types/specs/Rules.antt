@@ -3,7 +3,7 @@
 use Rattle.std.specs.Prelude.{ℕ, ◌&&◌, ◌||◌, List, [], ◌∷◌, length, Bool, not, nat_lt}
 use Rattle.std.specs.List.{list_any, list_all}
 use Rattle.llvm_items.specs.Sites.{Site, sites, is_record_of, enters, ends_module, code_of, fields_of, bit_at}
-use Rattle.dx_bitstream.specs.declared.item.Item.{Item}
+use Rattle.bitstream_spelling.specs.declared.item.Item.{Item}
 use Rattle.dx_base.specs.First.{IsBroken}
 use Rattle.dx_base.specs.Sentences.{Stated}
 use Rattle.llvm_types.specs.Types.{is_listed, least_of, type_numbers, numbered}

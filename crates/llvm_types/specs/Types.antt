@@ -2,7 +2,7 @@
 use Rattle.std.specs.Prelude.{ℕ, ◌==◌, ◌&&◌, ◌||◌, List, [], take, drop, get_or, map, Bool, true, false, if◌then◌else◌, nat_lt}
 use Rattle.std.specs.List.{filter}
 use Rattle.llvm_items.specs.Sites.{Site, sites, is_record_of, code_of, fields_of}
-use Rattle.dx_bitstream.specs.declared.item.Item.{Item}
+use Rattle.bitstream_spelling.specs.declared.item.Item.{Item}
 use Rattle.llvm_types.specs.declared.kind.LlvmType.{LlvmType}
 use Rattle.llvm_types.specs.declared.kind.LlvmType.TheVariants.{Void, Float, Double, Half, Label, Opaque, Metadata, Integer, Pointer, Array, Vector, Struct, Function}
 

@@ -1,5 +1,5 @@
 ghost use Rattle.std.specs.Prelude.{ℕ, ◌≡◌, ◌+◌, ◌≤◌, ◌<◌, ◌^◌, length, IfOk, OnOk, if◌then◌else◌};
-ghost use Rattle.dx_bitstream.specs.Framed.{LiesIn, IsFramed};
+ghost use Rattle.bitstream_spelling.specs.Framed.{LiesIn, IsFramed};
 ghost use Rattle.llvm_types.specs.Types.{is_numbered, numbered};
 ghost use Rattle.llvm_types.specs.Rules.{tests};
 ghost use Rattle.llvm_types.specs.Reading.{IsFirstRule, IsKept, StepAnswer, TypesAnswer, rule_at};
@@ -7,7 +7,7 @@ ghost use Rattle.llvm_types.specs.Reading.{IsFirstRule, IsKept, StepAnswer, Type
 use crate::kind::{TypeList, Types, kind_of};
 use crate::table::{record_rule, takes_number};
 use dx_base::{Fault, List, OutOfMemory, Rule};
-use dx_bitstream::{Item, Items};
+use bitstream_spelling::{Item, Items};
 use llvm_items::{OpenBlocks, bit_of, fields_of};
 use std::alloc::Global;
 
