@@ -1,0 +1,7 @@
+use Rattle.std.proofs.Common.{◌≡◌, ◌++◌, take}
+use Rattle.std.specs.List.{flat_map}
+use Rattle.dx_show.specs.Lines.{part_line}
+use Rattle.dx_show.proofs.lines.push_parts.Given as goal
+
+abbrev pub invariant-loop-part : goal.invariant-loop-part
+invariant-loop-part l = l.text ≡ l.initial.text ++ flat_map part_line (take l.part-index l.parts)
