@@ -1,5 +1,5 @@
 -- What the steps of a run say of the whole.
-use Rattle.std.proofs.Common.{◌≡◌, ◌≤◌, ◌+◌, ◌^◌, ◌⊎◌, ◌∙◌, inl, inr, ℕ, List, [], ◌∷◌, ◌++◌, Option, Some, None, Result, Ok, Err, IfOk, refl, sym, ap, length, codes, arith, string_bytes, zero, suc}
+use Rattle.std.proofs.Common.{◌≡◌, ◌≤◌, ◌<◌, ◌+◌, ◌^◌, ◌⊎◌, ◌∙◌, inl, inr, ℕ, List, [], ◌∷◌, ◌++◌, Option, Some, None, Result, Ok, Err, IfOk, refl, sym, ap, length, codes, arith, string_bytes, zero, suc}
 use Rattle.std.specs.declared.alloc.AllocError.{AllocError}
 use Rattle.std.proofs.lemmas.Fmt.{decimal_digit}
 use Rattle.dx_base.specs.declared.fault.Which.TheVariants.{File}
@@ -11,30 +11,56 @@ use Rattle.dx_outside.specs.Whole.{IsLong}
 use Rattle.dxil_cli.specs.declared.status.Status.{Status}
 use Rattle.dxil_cli.specs.declared.status.Status.TheVariants.{Done, Refused, Usage, ReadFault, WriteFault, Limit, OutOfMemory, SayFault}
 use Rattle.dxil_cli.specs.declared.output.Output.{Output}
-use Rattle.dxil_cli.specs.Commands.{Command, translate, unknown, source, target}
-use Rattle.dxil_cli.specs.Verdicts.{Verdict, written, refused, limited, IsVerdict}
-use Rattle.dxil_cli.specs.Answers.{Answer, answer_to, too_long, by_verdict, IsAnswer, rule_name, limit_name, refused_line, limit_line, translated_line, usage_line}
+use Rattle.dx_base.specs.declared.fault.Fault.{Fault}
+use Rattle.dx_base.specs.declared.fault.Fault.TheVariants as fault
+use Rattle.dx_file.specs.Layers.{Refusal, refused, limited}
+use Rattle.dx_file.specs.Reading.{FaultAnswer}
+use Rattle.dx_show.specs.Showing.{IsShown}
+use Rattle.dxil_cli.specs.Commands.{Command, translate, show, unknown, source, target}
+use Rattle.dxil_cli.specs.Verdicts.{Verdict, written, stopped, IsVerdict, TranslateAnswer}
+use Rattle.dxil_cli.specs.Answers.{Answer, answer_to, refusal_answer, lines_answer, IsTranslated, IsListed, by_lines, by_refusal, IsOfFile, too_long, of_bytes, IsAnswer, rule_name, limit_name, refused_line, limit_line, translated_line, usage_line}
 use Rattle.dxil_cli.specs.Runs.{Read, Tells, FilesAfter, RoseAt, Answered, Leaves, InPlaceOf, IsExact, IsComplete}
-use Rattle.dxil_cli.specs.Outputs.{answer_of, IsOutput, IsOfAnswer, Concluded, whole, failed, lacking, Finishes}
+use Rattle.dxil_cli.specs.Outputs.{answer_of, IsOutput, IsListing, IsRefusalOutput, IsFaultOutput, IsOfAnswer, Concluded, whole, failed, lacking, Finishes}
 use Rattle.dxil_cli.proofs.Answering.{status_unique}
+
+of_refusal : (r : Refusal) → IsOfAnswer (refusal_answer r).status
+of_refusal (refused rule bit) = tt
+of_refusal (limited which bit) = tt
 
 of_verdict : (to : List ℕ) (v : Verdict) → IsOfAnswer (answer_to to v).status
 of_verdict to (written words) = tt
-of_verdict to (refused rule bit) = tt
-of_verdict to (limited which bit) = tt
+of_verdict to (stopped r) = of_refusal r
 
 pub of_answer : (command : Command) (bytes : List ℕ) (answer : Answer) → IsAnswer command bytes answer → IsOfAnswer answer.status
 of_answer (translate from to) bytes answer (too_long l e) = rw e tt
-of_answer (translate from to) bytes answer (by_verdict v l w e) = rw e (of_verdict to v)
+of_answer (translate from to) bytes answer (of_bytes l t) = rw t.answer_is (of_verdict to t.verdict)
+of_answer (show from) bytes answer (too_long l e) = rw e tt
+of_answer (show from) bytes answer (of_bytes l (by_lines text s e)) = rw e tt
+of_answer (show from) bytes answer (of_bytes l (by_refusal r x e)) = rw e (of_refusal r)
 of_answer unknown bytes answer e = rw e tt
+
+-- A refusal, a limit and the lines of a file write nothing.
+refusal_writes : (r : Refusal) → (refusal_answer r).writes ≡ None
+refusal_writes (refused rule bit) = refl
+refusal_writes (limited which bit) = refl
+
+pub listed_writes : (bytes : List ℕ) (answer : Answer) → IsListed bytes answer → answer.writes ≡ None
+listed_writes bytes answer (by_lines text s e) = rw e refl
+listed_writes bytes answer (by_refusal r x e) = rw e (refusal_writes r)
+
+not_some : (answer : Answer) (w : List ℕ × List ℕ) → answer.writes ≡ None → answer.writes ≡ Some w → ⊥
+not_some answer w nothing has = absurd (cc)
 
 -- What is written is the target's, and only at Done.
 pub writes_done : (command : Command) (bytes : List ℕ) (answer : Answer) (w : List ℕ × List ℕ) → IsAnswer command bytes answer → answer.writes ≡ Some w → answer.status ≡ Done
-writes_done (translate from to) bytes answer w (too_long l e) has = let no : None ≡ Some w = rw e at has in cc
-writes_done (translate from to) bytes answer w (by_verdict (written words) l v e) has = rw e refl
-writes_done (translate from to) bytes answer w (by_verdict (refused rule bit) l v e) has = let no : None ≡ Some w = rw e at has in cc
-writes_done (translate from to) bytes answer w (by_verdict (limited which bit) l v e) has = let no : None ≡ Some w = rw e at has in cc
-writes_done unknown bytes answer w e has = let no : None ≡ Some w = rw e at has in cc
+writes_done (translate from to) bytes answer w (too_long l e) has = absurd (not_some answer w (rw e refl) has)
+writes_done (translate from to) bytes answer w (of_bytes l t) has = rw t.answer_is (by_verdict t.verdict (rw t.answer_is at has)) where
+  by_verdict : (v : Verdict) → (answer_to to v).writes ≡ Some w → (answer_to to v).status ≡ Done
+  by_verdict (written words) has = refl
+  by_verdict (stopped r) has = absurd (not_some (refusal_answer r) w (refusal_writes r) has)
+writes_done (show from) bytes answer w (too_long l e) has = absurd (not_some answer w (rw e refl) has)
+writes_done (show from) bytes answer w (of_bytes l t) has = absurd (not_some answer w (listed_writes bytes answer t) has)
+writes_done unknown bytes answer w e has = absurd (not_some answer w (rw e refl) has)
 
 answered_leaves : (command : Command) (files : FilesSeen) (sink : SinkSeen) (files' : FilesSeen) (sink' : SinkSeen) (status : Status) → IsOfAnswer status
     → Answered command files.store sink.taken files'.store sink'.taken status → Leaves command files sink files' sink' status
@@ -88,24 +114,39 @@ pub some_long : (files : Option Store) (name : List ℕ) → Holds files name Is
 some_long None name holds = let some = long_list (2 ^ 26 + 1) in (some.0, record { told = λ store e. cc }, omega (arith, some.1))
 some_long (Some store) name holds = let h = holds.told store refl in (h.0, record { told = λ other e. let f : store ≡ other = cc in rw (← f) h.1 }, h.2)
 
--- what the outputs of a verdict are
-pub made_success : (r : Result Output AllocError) (bytes words : List ℕ) → length bytes ≤ 2 ^ 26 → IsVerdict bytes (written words)
-    → IfOk r (λ output. output.status ≡ Done) → IfOk r (λ output. output.bytes ≡ Some (bytes_of_words words)) → IfOk r (λ output. string_bytes output.text ≡ translated_line (length words))
+-- the outputs
+pub made_success : (r : Result Output AllocError) (bytes words : List ℕ) → IsVerdict bytes (written words)
+    → IfOk r (λ output. output.status ≡ Done) → IfOk r (λ output. output.bytes ≡ Some (bytes_of_words words)) → IfOk r (λ output. output.text ≡ translated_line (length words))
     → IfOk r (λ output. IsOutput bytes output)
-made_success (Err e) bytes words short v s b t = tt
-made_success (Ok output) bytes words short v s b t = record { translated = λ to. by_verdict (written words) short v (rw (s, b, t) refl) }
+made_success (Err e) bytes words v s b t = tt
+made_success (Ok output) bytes words v s b t = record { translated = λ to. record { verdict = written words; is_verdict = v; answer_is = rw (s, b, t) refl } }
 
-pub made_refusal : (r : Result Output AllocError) (bytes : List ℕ) (rule : Rule) (bit : ℕ) → length bytes ≤ 2 ^ 26 → IsVerdict bytes (refused rule bit)
-    → IfOk r (λ output. output.status ≡ Refused) → IfOk r (λ output. output.bytes ≡ None) → IfOk r (λ output. string_bytes output.text ≡ refused_line (rule_name rule) bit)
-    → IfOk r (λ output. IsOutput bytes output)
-made_refusal (Err e) bytes rule bit short v s b t = tt
-made_refusal (Ok output) bytes rule bit short v s b t = record { translated = λ to. by_verdict (refused rule bit) short v (rw (s, b, t) refl) }
+pub made_refusal : (r : Result Output AllocError) (rule : Rule) (bit : ℕ)
+    → IfOk r (λ output. output.status ≡ Refused) → IfOk r (λ output. output.bytes ≡ None) → IfOk r (λ output. output.text ≡ refused_line (rule_name rule) bit)
+    → IfOk r (λ output. IsRefusalOutput (refused rule bit) output)
+made_refusal (Err e) rule bit s b t = tt
+made_refusal (Ok output) rule bit s b t = record { answers = λ to. rw (s, b, t) refl }
 
-pub made_limit : (r : Result Output AllocError) (bytes : List ℕ) (which : Which) (bit : ℕ) → length bytes ≤ 2 ^ 26 → IsVerdict bytes (limited which bit)
-    → IfOk r (λ output. output.status ≡ Limit) → IfOk r (λ output. output.bytes ≡ None) → IfOk r (λ output. string_bytes output.text ≡ limit_line (limit_name which) bit)
-    → IfOk r (λ output. IsOutput bytes output)
-made_limit (Err e) bytes which bit short v s b t = tt
-made_limit (Ok output) bytes which bit short v s b t = record { translated = λ to. by_verdict (limited which bit) short v (rw (s, b, t) refl) }
+pub made_limit : (r : Result Output AllocError) (which : Which) (bit : ℕ)
+    → IfOk r (λ output. output.status ≡ Limit) → IfOk r (λ output. output.bytes ≡ None) → IfOk r (λ output. output.text ≡ limit_line (limit_name which) bit)
+    → IfOk r (λ output. IsRefusalOutput (limited which bit) output)
+made_limit (Err e) which bit s b t = tt
+made_limit (Ok output) which bit s b t = record { answers = λ to. rw (s, b, t) refl }
+
+pub translate_failed : (r : Result Output AllocError) (bytes : List ℕ) (f : Fault) → TranslateAnswer (Err f) bytes → IfOk r (λ output. IsFaultOutput f output) → IfOk r (λ output. IsOutput bytes output)
+translate_failed (Err e) bytes f v o = tt
+translate_failed (Ok output) bytes (fault.Refused rule bit) v o = record { translated = λ to. record { verdict = stopped (refused rule bit); is_verdict = v; answer_is = o.answers to } }
+translate_failed (Ok output) bytes (fault.Limit which bit) v o = record { translated = λ to. record { verdict = stopped (limited which bit); is_verdict = v; answer_is = o.answers to } }
+translate_failed (Ok output) bytes fault.OutOfMemory v o = absurd o
+
+pub show_failed : (r : Result Output AllocError) (bytes : List ℕ) (f : Fault) → FaultAnswer f bytes → IfOk r (λ output. IsFaultOutput f output) → IfOk r (λ output. IsListing bytes output)
+show_failed (Err e) bytes f v o = tt
+show_failed (Ok output) bytes (fault.Refused rule bit) v o = record { listed = λ to. by_refusal (refused rule bit) v.first (o.answers to) }
+show_failed (Ok output) bytes (fault.Limit which bit) v o = record { listed = λ to. by_refusal (limited which bit) v.first (o.answers to) }
+show_failed (Ok output) bytes fault.OutOfMemory v o = absurd o
+
+pub shown_listing : (bytes text : List ℕ) → IsShown bytes text → IsListing bytes (record { status = Done; bytes = None; text = text })
+shown_listing bytes text s = record { listed = λ to. by_lines text s refl }
 
 in_place : (command : Command) (files : FilesSeen) (sink : SinkSeen) (files' : FilesSeen) (sink' : SinkSeen) (status : Status) → Leaves command files sink files' sink' status
     → (bytes : List ℕ) (answer : Answer) → Tells (source command) files.store bytes → IsAnswer command bytes answer → InPlaceOf answer.status status
@@ -146,7 +187,7 @@ complete command files sink files' sink' status leaves = record {
 
 -- The output writes nothing.
 pub finished_none : (to : List ℕ) (output : Output) (files : FilesSeen) (sink sink' : SinkSeen) (status : Status) → output.bytes ≡ None
-    → Concluded (string_bytes output.text) sink sink' output.status status → Finishes to output files sink files sink' status
+    → Concluded output.text sink sink' output.status status → Finishes to output files sink files sink' status
 finished_none to output files sink sink' status none said = record {
   leaves = λ command bytes read is right. concluded command files sink files sink' bytes (answer_of to output) status read right (rw none refl) said;
 }
@@ -154,7 +195,7 @@ finished_none to output files sink sink' status none said = record {
 -- The output's bytes were written.
 pub finished_some : (to : List ℕ) (output : Output) (content : List ℕ) (files : FilesSeen) (sink : SinkSeen) (files' : FilesSeen) (sink' : SinkSeen) (status : Status) → output.bytes ≡ Some content
     → Becomes files.store to (IsWhole content) files'.store
-    → Concluded (string_bytes output.text) sink sink' output.status status → Finishes to output files sink files' sink' status
+    → Concluded output.text sink sink' output.status status → Finishes to output files sink files' sink' status
 finished_some to output content files sink files' sink' status some whole_write said = record {
   leaves = λ command bytes read is right. concluded command files sink files' sink' bytes (answer_of to output) status read right (rw some whole_write) said;
 }
@@ -181,13 +222,21 @@ limit_text : limit_line (limit_name File) 0 ≡ codes "limit file bit 0" ++ 10 �
 limit_text = rw (decimal_digit 0 (omega arith)) refl
 
 -- The file is too long.
-pub limited_leaves : (from to text : List ℕ) (files mid : FilesSeen) (sink sink' : SinkSeen) (status : Status) → text ≡ codes "limit file bit 0" ++ 10 ∷ []
-    → mid.store ≡ files.store → Holds files.store from IsLong
-    → Concluded text sink sink' Limit status → Leaves (translate from to) files sink mid sink' status
-limited_leaves from to text files mid sink sink' status line same holds said =
+pub limited_leaves : (command : Command) (from text : List ℕ) (files mid : FilesSeen) (sink sink' : SinkSeen) (status : Status) → source command ≡ Some from
+    → ((bytes : List ℕ) → 2 ^ 26 < length bytes → IsAnswer command bytes (refusal_answer (limited File 0)))
+    → text ≡ codes "limit file bit 0" ++ 10 ∷ [] → mid.store ≡ files.store → Holds files.store from IsLong
+    → Concluded text sink sink' Limit status → Leaves command files sink mid sink' status
+limited_leaves command from text files mid sink sink' status reads answers line same holds said =
     let long = some_long files.store from holds in
     let right : text ≡ limit_line (limit_name File) 0 = line ∙ sym limit_text in
-    concluded (translate from to) files sink mid sink' long.0 (answer_to to (limited File 0)) status long.1 (too_long long.2 refl) same (rw right at said)
+    concluded command files sink mid sink' long.0 (refusal_answer (limited File 0)) status (rw reads long.1) (answers long.0 long.2) same (rw right at said)
+
+-- The lines of the file, or its refusal.
+pub listed_leaves : (from bytes : List ℕ) (output : Output) (files mid : FilesSeen) (sink sink' : SinkSeen) (status : Status) → mid.store ≡ files.store → Stood files.store from bytes
+    → length bytes ≤ 2 ^ 26 → IsListing bytes output → Concluded output.text sink sink' output.status status → Leaves (show from) files sink mid sink' status
+listed_leaves from bytes output files mid sink sink' status same stood short listing said =
+    let listed : IsListed bytes (answer_of [] output) = listing.listed [] in
+    concluded (show from) files sink mid sink' bytes (answer_of [] output) status stood (of_bytes short listed) (rw (listed_writes bytes (answer_of [] output) listed) same) said
 
 -- The words are of no form that is known.
 pub usage_leaves : (command : Command) (text : List ℕ) (files : FilesSeen) (sink sink' : SinkSeen) (status : Status) → command ≡ unknown → text ≡ usage_line

@@ -1,6 +1,8 @@
 pub mod Walking
-pub mod Comparison
+pub mod Passing
+pub mod Table
 pub mod Wholeness
+pub mod Comparisons
 pub mod VerdictLaws
 pub mod Unique
 pub mod Answering

@@ -1,11 +1,11 @@
--- Items that are framed, and each as the empty shader has it at its place, are all of the empty shader's.
+-- Items that close each block that they open, and each as the empty shader has it at its place, are all of the empty shader's.
 use Rattle.std.proofs.Common.{ℕ, zero, suc, ◌≡◌, ◌<◌, ◌≤◌, ◌∙◌, ◌&&◌, inl, inr, refl, sym, ap, subst, arith, List, [], ◌∷◌, length, take, slice_get, Some, None, Bool, true, false}
 use Rattle.std.proofs.lemmas.Bool.{cases_lt}
 use Rattle.std.proofs.lemmas.Option.{slice_get_within}
-use Rattle.dx_bitstream.specs.Spelling.{rest_of}
-use Rattle.dx_bitstream.specs.Framed.{open_after, open_behind, IsFramed}
-use Rattle.dx_bitstream.specs.declared.item.Item.{Item}
-use Rattle.dx_bitstream.specs.declared.item.Item.TheVariants.{Enter, Record, Skip, End}
+use Rattle.bitstream_spelling.specs.Spelling.{rest_of}
+use Rattle.bitstream_spelling.specs.Framed.{open_after, open_behind}
+use Rattle.bitstream_spelling.specs.declared.item.Item.{Item}
+use Rattle.bitstream_spelling.specs.declared.item.Item.TheVariants.{Enter, Record, Skip, End}
 use Rattle.dxil_cli.specs.FirstFailing.{HoldsThroughout}
 use Rattle.dxil_cli.specs.EmptyShader.{Expected, enters, states, thread_count, ends, empty_shader, first_count, third_count, counts_node, IsAs, Fits}
 
@@ -100,16 +100,13 @@ stays_open ids (x ∷ y ∷ es) (suc n) t h e =
 shader_stays : stays [] empty_shader ≡ true
 shader_stays = refl
 
-pub whole_length : (is : List Item) (fs : List ℕ) → IsFramed is fs → HoldsThroughout (Fits fs) is → length is ≡ length empty_shader
-whole_length is fs f h = elim (cases_lt (length is) (length empty_shader)) [
-  | inl short ↦ absurd (cut (length is) some short (sym (walk fs [] is empty_shader fitting) ∙ f.ends))
+pub whole_length : (is : List Item) (fs : List ℕ) → 0 < length is → open_behind [] is ≡ [] → HoldsThroughout (Fits fs) is → length is ≡ length empty_shader
+whole_length is fs some closed h = elim (cases_lt (length is) (length empty_shader)) [
+  | inl short ↦ absurd (cut (length is) some short (sym (walk fs [] is empty_shader fitting) ∙ closed))
   | inr full ↦ omega (arith, full, few fs is empty_shader fitting)
 ] where
   fitting : AreAs fs is empty_shader
   fitting = record { each = λ i item e. let g = h.each i item e in (g.expected, g.stands, g.is) }
-
-  some : 0 < length is
-  some = omega (arith, slice_get_within is f.at (Enter 8 f.module_block.width f.module_block.bit) f.module_block.enters)
 
   cut : (n : ℕ) → 0 < n → n < length empty_shader → opens [] (take n empty_shader) ≡ [] → ⊥
   cut zero p l e = omega arith

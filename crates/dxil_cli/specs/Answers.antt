@@ -8,8 +8,10 @@ use Rattle.dx_base.specs.declared.fault.Which.{Which}
 use Rattle.dx_base.specs.declared.fault.Which.TheVariants.{File, Records, Fields, Blocks, Instructions, Cases, PhiEntries, Resources}
 use Rattle.dxil_cli.specs.declared.status.Status.{Status}
 use Rattle.dxil_cli.specs.declared.status.Status.TheVariants.{Done, Refused, Usage, Limit}
-use Rattle.dxil_cli.specs.Commands.{Command, translate, unknown}
-use Rattle.dxil_cli.specs.Verdicts.{Verdict, written, refused, limited, IsVerdict}
+use Rattle.dx_file.specs.Layers.{Refusal, refused, limited, IsFirstRefusal}
+use Rattle.dx_show.specs.Showing.{IsShown}
+use Rattle.dxil_cli.specs.Commands.{Command, translate, show, unknown}
+use Rattle.dxil_cli.specs.Verdicts.{Verdict, written, stopped, IsVerdict}
 
 -- The status, the name and bytes of the file that is written, if there is one, and the text that is said.
 pub record Answer : Type 0 where
@@ -52,18 +54,38 @@ refused_line name bit = codes "refused " ++ (name ++ (codes " bit " ++ (decimal 
 abbrev pub translated_line : ℕ → List ℕ
 translated_line count = codes "translated " ++ (decimal count ++ (codes " words" ++ 10 ∷ []))
 
+-- the answer to a broken rule or a passed limit
+abbrev pub refusal_answer : Refusal → Answer
+refusal_answer (refused rule bit) = record { status = Refused; writes = None; text = refused_line (rule_name rule) bit }
+refusal_answer (limited which bit) = record { status = Limit; writes = None; text = limit_line (limit_name which) bit }
+
 -- the answer of `translate IN OUT` to a verdict on IN, where OUT has the given name
 abbrev pub answer_to : List ℕ → Verdict → Answer
 answer_to to (written words) = record { status = Done; writes = Some (to, bytes_of_words words); text = translated_line (length words) }
-answer_to to (refused rule bit) = record { status = Refused; writes = None; text = refused_line (rule_name rule) bit }
-answer_to to (limited which bit) = record { status = Limit; writes = None; text = limit_line (limit_name which) bit }
+answer_to to (stopped refusal) = refusal_answer refusal
 
--- The answer of `translate IN OUT` where IN has these bytes: the limit on the file's length comes first, and then the verdict.
-pub data IsTranslated (to bytes : List ℕ) (answer : Answer) : Type 0 where
-  too_long : 2 ^ 26 < length bytes → answer ≡ answer_to to (limited File 0) → IsTranslated to bytes answer
-  by_verdict : (verdict : Verdict) → length bytes ≤ 2 ^ 26 → IsVerdict bytes verdict → answer ≡ answer_to to verdict → IsTranslated to bytes answer
+-- the answer of `show IN` to the lines of IN
+abbrev pub lines_answer : List ℕ → Answer
+lines_answer text = record { status = Done; writes = None; text = text }
+
+-- What `translate IN OUT` answers where IN has these bytes.
+pub record IsTranslated (to bytes : List ℕ) (answer : Answer) : Type 0 where
+  pub verdict : Verdict
+  pub is_verdict : IsVerdict bytes verdict
+  pub answer_is : answer ≡ answer_to to verdict
+
+-- What `show IN` answers where IN has these bytes: the lines of its content, or the first refusal of the layers C and B.
+pub data IsListed (bytes : List ℕ) (answer : Answer) : Type 0 where
+  by_lines : (text : List ℕ) → IsShown bytes text → answer ≡ lines_answer text → IsListed bytes answer
+  by_refusal : (refusal : Refusal) → IsFirstRefusal bytes refusal → answer ≡ refusal_answer refusal → IsListed bytes answer
+
+-- The answer of a command that reads a file of these bytes: the limit on the file's length comes first, and then what the command answers.
+pub data IsOfFile (Answers : Answer → Type 0) (bytes : List ℕ) (answer : Answer) : Type 0 where
+  too_long : 2 ^ 26 < length bytes → answer ≡ refusal_answer (limited File 0) → IsOfFile Answers bytes answer
+  of_bytes : length bytes ≤ 2 ^ 26 → Answers answer → IsOfFile Answers bytes answer
 
 -- The answer of a command where IN, if the command has one, has these bytes.
 abbrev pub IsAnswer : Command → List ℕ → Answer → Type 0
-IsAnswer (translate from to) bytes answer = IsTranslated to bytes answer
+IsAnswer (translate from to) bytes answer = IsOfFile (IsTranslated to bytes) bytes answer
+IsAnswer (show from) bytes answer = IsOfFile (IsListed bytes) bytes answer
 IsAnswer unknown bytes answer = answer ≡ record { status = Usage; writes = None; text = usage_line }

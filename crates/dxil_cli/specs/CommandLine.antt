@@ -1,8 +1,9 @@
 -- The command that a parsed command line means.
 use Rattle.dxil_cli.specs.declared.command_line.CommandLine.{CommandLine}
-use Rattle.dxil_cli.specs.declared.command_line.CommandLine.TheVariants.{Translate, Unknown}
-use Rattle.dxil_cli.specs.Commands.{Command, translate, unknown}
+use Rattle.dxil_cli.specs.declared.command_line.CommandLine.TheVariants.{Translate, Show, Unknown}
+use Rattle.dxil_cli.specs.Commands.{Command, translate, show, unknown}
 
 abbrev pub command_meant : CommandLine → Command
 command_meant (Translate from to) = translate from.now to.now
+command_meant (Show from) = show from.now
 command_meant Unknown = unknown

@@ -1,38 +1,8 @@
--- The form of the empty shader: a container with a fixed header, whose bitcode has fixed items but for two of the three thread counts.
+-- The items of the empty shader, which are fixed but for two of the three thread counts.
 use Rattle.std.specs.Prelude.{ℕ, ◌≡◌, ◌≢◌, ◌+◌, ◌-◌, ◌*◌, ◌^◌, ◌<◌, ◌≤◌, ◌⊎◌, List, [], ◌∷◌, length, take, drop, codes, slice_get, Some}
-use Rattle.dx_base.specs.Bits.{num}
-use Rattle.dx_bitstream.specs.declared.item.Item.{Item}
-use Rattle.dx_bitstream.specs.declared.item.Item.TheVariants.{Enter, Record, Skip, End}
+use Rattle.bitstream_spelling.specs.declared.item.Item.{Item}
+use Rattle.bitstream_spelling.specs.declared.item.Item.TheVariants.{Enter, Record, Skip, End}
 use Rattle.dxil_cli.specs.FirstFailing.{HoldsThroughout}
-use Rattle.dxil_cli.specs.declared.header.Field.{Field}
-
--- C1: there are fewer than 32 bytes, or the first four are not DXBC
-abbrev pub IsNoContainer : List ℕ → Type 0
-IsNoContainer bytes = (length bytes < 32) ⊎ (take 4 bytes ≢ codes "DXBC")
-
--- a number of 32 bits in the four bytes from a byte on, the least significant first
-abbrev pub field : ℕ → ℕ → Field
-field at value = record { at = at; value = value }
-
--- The fields of the header, for a file of so many bytes. From byte 20: the container's version 1.0, the file's length, one part, and its
--- offset 36. From byte 36: the part's name DXIL and the size of its data, which end the file. From byte 44: the program version, compute
--- shader model 6.0. From byte 52: the magic DXIL, the DXIL version 1.0, and the bitcode's offset 16 from that magic and its size, which
--- ends the file.
-abbrev pub header : ℕ → List Field
-header length =
-    field 20 1 ∷ field 24 length ∷ field 28 1 ∷ field 32 36 ∷ field 36 0x4C495844 ∷ field 40 (length - 44) ∷ field 44 0x00050060
-    ∷ field 52 0x4C495844 ∷ field 56 0x100 ∷ field 60 16 ∷ field 64 (length - 68) ∷ []
-
--- a field stands in the file, and has its value
-abbrev pub IsField : List ℕ → ℕ → Field → Type 0
-IsField bytes i f = (f.at + 4 ≤ length bytes) × (num bytes (8 * f.at) 32 ≡ f.value)
-
-abbrev pub field_bit : Field → ℕ
-field_bit f = 8 * f.at
-
--- the first bit of the bitcode, which ends with the file
-abbrev pub bitcode : ℕ
-bitcode = 544
 
 -- An item as the empty shader has it: a block's entry, a record with its code and fields, an INTEGER record of a thread count, or a block's end.
 pub data Expected : Type 0 where

@@ -2,7 +2,7 @@ pub mod Commands
 pub mod CommandLine
 pub mod FirstFailing
 pub mod EmptyShader
-pub mod Headers
+pub mod Compared
 pub mod Comparing
 pub mod ModuleWords
 pub mod Verdicts

@@ -1,21 +1,38 @@
 -- What a command has made before it writes and says.
-use Rattle.std.specs.Prelude.{◌≡◌, ℕ, List, Some, string_bytes}
+use Rattle.std.specs.Prelude.{◌≡◌, ℕ, List, Some}
 use Rattle.std.specs.Option.{option_map}
+use Rattle.dx_base.specs.declared.fault.Fault.{Fault}
+use Rattle.dx_base.specs.declared.fault.Fault.TheVariants as fault
+use Rattle.dx_file.specs.Layers.{Refusal, refused, limited}
 use Rattle.dx_outside.specs.Outside.{FilesSeen, SinkSeen, Rose, SaidPart, with_more}
 use Rattle.dxil_cli.specs.declared.output.Output.{Output}
 use Rattle.dxil_cli.specs.declared.status.Status.{Status}
 use Rattle.dxil_cli.specs.declared.status.Status.TheVariants.{Done, Refused, Usage, ReadFault, WriteFault, Limit, OutOfMemory, SayFault}
 use Rattle.dxil_cli.specs.Commands.{Command, source, target}
-use Rattle.dxil_cli.specs.Answers.{Answer, IsAnswer, IsTranslated}
+use Rattle.dxil_cli.specs.Answers.{Answer, refusal_answer, IsAnswer, IsTranslated, IsListed}
 use Rattle.dxil_cli.specs.Runs.{Read, Leaves}
 
 -- the answer that an output is
 abbrev pub answer_of : List ℕ → Output → Answer
-answer_of to output = record { status = output.status; writes = option_map (λ bytes. (to, bytes)) output.bytes; text = string_bytes output.text }
+answer_of to output = record { status = output.status; writes = option_map (λ bytes. (to, bytes)) output.bytes; text = output.text }
 
 -- The output is the answer of `translate` to a file of these bytes.
 pub record IsOutput (bytes : List ℕ) (output : Output) : Type 0 where
   pub translated : (to : List ℕ) → IsTranslated to bytes (answer_of to output)
+
+-- The output is the answer of `show` to a file of these bytes.
+pub record IsListing (bytes : List ℕ) (output : Output) : Type 0 where
+  pub listed : (to : List ℕ) → IsListed bytes (answer_of to output)
+
+-- the output is the answer to a refusal
+pub record IsRefusalOutput (refusal : Refusal) (output : Output) : Type 0 where
+  pub answers : (to : List ℕ) → answer_of to output ≡ refusal_answer refusal
+
+-- the output for a fault
+abbrev pub IsFaultOutput : Fault → Output → Type 0
+IsFaultOutput (fault.Refused rule bit) output = IsRefusalOutput (refused rule bit) output
+IsFaultOutput (fault.Limit which bit) output = IsRefusalOutput (limited which bit) output
+IsFaultOutput fault.OutOfMemory output = ⊥
 
 -- the statuses of answers
 abbrev pub IsOfAnswer : Status → Type 0

@@ -7,6 +7,8 @@ ghost use Rattle.dxil_cli.specs.CommandLine.{command_meant};
 pub enum CommandLine<'a> {
     /// `translate IN OUT`
     Translate { from: &'a str, to: &'a str },
+    /// `show IN`
+    Show { from: &'a str },
     /// Words of no known form.
     Unknown,
 }
@@ -15,6 +17,14 @@ pub enum CommandLine<'a> {
 pub fn parse_words(words: &[String]) -> CommandLine<'_>
     ensures { command_meant result ≡ command_of (map string_bytes words.now) }
 {
+    if words.len() == 2 {
+        if words[0].as_str() == "show" {
+            return CommandLine::Show {
+                from: words[1].as_str(),
+            };
+        }
+        return CommandLine::Unknown;
+    }
     if words.len() == 3 {
         if words[0].as_str() == "translate" {
             return CommandLine::Translate {

@@ -2,14 +2,13 @@
 
 ghost use Rattle.std.specs.Prelude.{◌≡◌, ◌+◌, ◌*◌, ◌≤◌, ◌<◌, ◌^◌, ◌↔◌, length, map, take, drop, IsTrue, slice_get, List as Seq, ℕ};
 ghost use Rattle.std.specs.Option.{option_copied, option_map};
-ghost use Rattle.dx_bitstream.specs.Framed.{bit_of, IsFramed, LiesIn};
-ghost use Rattle.dxil_cli.specs.FirstFailing.{HoldsThroughout};
+ghost use Rattle.bitstream_spelling.specs.Framed.{bit_of, LiesIn};
 ghost use Rattle.dxil_cli.specs.EmptyShader.{empty_shader, enters, thread_count, ends, counts_node, row_of, IsAs, Fits, HasCount, IsShader};
 ghost use Rattle.dxil_cli.specs.EmptyShader as expected;
-ghost use Rattle.dxil_cli.specs.Comparing.{seen, CountAnswer, ItemAnswer, IsCountAt, IsNodeBit};
+ghost use Rattle.dxil_cli.specs.Comparing.{seen, CountAnswer, IsCountAt, IsNodeBit, AreAll};
 
 use crate::module_words::Threads;
-use dx_bitstream::{Item, Items};
+use bitstream_spelling::Item;
 
 /// An item as the empty shader has it.
 #[derive(Clone, Copy)]
@@ -184,7 +183,7 @@ fn is_as(fields: &[u64], known: &Known, item: &Item) -> bool
 }
 
 /// Whether the item is as the empty shader has it at this place.
-fn fits(fields: &[u64], at: usize, item: &Item) -> bool
+pub fn fits(fields: &[u64], at: usize, item: &Item) -> bool
     requires { LiesIn fields.now item.now }
     ensures { IsTrue result ↔ Fits fields.now at item.now }
 {
@@ -206,27 +205,6 @@ pub fn bit_of(item: &Item) -> u64
     }
 }
 
-/// The bit of the first of the items that departs from the empty shader's.
-fn first_other(fields: &[u64], items: &[Item]) -> Option<u64>
-    requires { IsFramed items.now fields.now }
-    ensures { ItemAnswer result items.now fields.now }
-{
-    for (at, item) in items.iter().enumerate() {
-        if !fits(fields, at, item) {
-            return Some(bit_of(item));
-        }
-    }
-    None
-}
-
-/// The bit of the first item that departs from the empty shader's.
-pub fn first_other_item(items: &Items) -> Option<u64>
-    requires { IsFramed items.now.list items.now.fields }
-    ensures { ItemAnswer result items.now.list items.now.fields }
-{
-    first_other(items.fields.as_slice(), items.list.as_slice())
-}
-
 /// The thread count that the record at a place states.
 fn count_at(fields: &[u64], items: &[Item], at: usize) -> u32
     requires item { IsCountAt items.now fields.now at }
@@ -241,27 +219,23 @@ fn count_at(fields: &[u64], items: &[Item], at: usize) -> u32
     }
 }
 
-/// The thread counts of the empty shader that the items state.
-pub fn threads_of(items: &Items) -> Threads
-    requires framed { IsFramed items.now.list items.now.fields }
-    requires fit { HoldsThroughout (Fits items.now.fields) items.now.list }
-    ensures shader { IsShader items.now.list items.now.fields result.x result.z }
+/// The thread counts that the items of the empty shader state.
+pub fn threads_of(fields: &[u64], items: &[Item]) -> Threads
+    requires { AreAll items.now fields.now }
+    ensures shader { IsShader items.now fields.now result.x result.z }
     ensures second { result.y ≡ 4 }
 {
-    let fields = items.fields.as_slice();
-    let list = items.list.as_slice();
     Threads {
-        x: count_at(fields, list, FIRST_COUNT),
+        x: count_at(fields, items, FIRST_COUNT),
         y: SECOND,
-        z: count_at(fields, list, THIRD_COUNT),
+        z: count_at(fields, items, THIRD_COUNT),
     }
 }
 
 /// The bit of the node of the thread counts.
-pub fn counts_bit(items: &Items) -> u64
-    requires framed { IsFramed items.now.list items.now.fields }
-    requires fit { HoldsThroughout (Fits items.now.fields) items.now.list }
-    ensures { IsNodeBit items.now.list result }
+pub fn counts_bit(items: &[Item]) -> u64
+    requires { length items.now ≡ length empty_shader }
+    ensures { IsNodeBit items.now result }
 {
-    bit_of(&items.list.as_slice()[COUNTS_NODE])
+    bit_of(&items[COUNTS_NODE])
 }

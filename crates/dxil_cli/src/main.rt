@@ -1,11 +1,11 @@
-//! Translates a compiled compute shader, a DXBC container, into a SPIR-V module.
+//! Translates a compiled compute shader, a DXBC container, into a SPIR-V module, or shows what it is made of.
 #![tactic(auto)]
 
 mod command_line;
+mod comparison;
 mod empty_shader;
 #[cfg(test)]
 mod example;
-mod header;
 mod module_words;
 mod output;
 mod status;

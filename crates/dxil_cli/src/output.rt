@@ -1,11 +1,12 @@
 ghost use Rattle.std.specs.Prelude.{◌≡◌, ◌≤◌, ◌^◌, length, IfOk, None, Some, string_bytes};
 ghost use Rattle.dx_base.specs.WordBytes.{bytes_of_words};
 ghost use Rattle.dxil_cli.specs.Answers.{rule_name, limit_name, refused_line, limit_line, translated_line};
-ghost use Rattle.dxil_cli.specs.Outputs.{IsOutput};
+ghost use Rattle.dxil_cli.specs.Outputs.{IsOutput, IsListing, IsFaultOutput};
 
 use crate::status::Status;
 use crate::translate::translate;
-use dx_base::{Bytes, Fault, Rule, Which, Words, bytes_of};
+use dx_base::{Bytes, Fault, List, Rule, Which, Words, bytes_of};
+use dx_show::show;
 use std::alloc::{AllocError, Global};
 
 /// All that a command has made before it writes and says.
@@ -16,7 +17,18 @@ pub struct Output {
     /// The bytes of the file that is written, if there is one.
     pub bytes: Option<Bytes>,
     /// The text that is said.
-    pub text: String,
+    pub text: Bytes,
+}
+
+/// The bytes of a text.
+fn bytes_of_text(alloc: Global, text: &str) -> Result<Bytes, AllocError>
+    ensures { IfOk result (λ bytes. bytes ≡ text.now) }
+{
+    let mut bytes: Bytes = List::new(alloc);
+    for byte in text.as_bytes() {
+        bytes.push(*byte).map_err(|_| AllocError)?;
+    }
+    Ok(bytes)
 }
 
 /// The rule's letter and number.
@@ -54,10 +66,11 @@ fn named_limit(which: Which) -> &'static str
 fn refusal(alloc: Global, rule: Rule, bit: u64) -> Result<Output, AllocError>
     ensures status { IfOk result (λ output. output.status ≡ Status.Refused) }
     ensures bytes { IfOk result (λ output. output.bytes ≡ None) }
-    ensures text { IfOk result (λ output. string_bytes output.text ≡ refused_line (rule_name rule) bit) }
+    ensures text { IfOk result (λ output. output.text ≡ refused_line (rule_name rule) bit) }
 {
     let name = named_rule(alloc, rule)?;
-    let text = format!(in alloc; "refused {name} bit {bit}\n")?;
+    let line = format!(in alloc; "refused {name} bit {bit}\n")?;
+    let text = bytes_of_text(alloc, line.as_str())?;
     Ok(Output {
         status: Status::Refused,
         bytes: None,
@@ -69,10 +82,11 @@ fn refusal(alloc: Global, rule: Rule, bit: u64) -> Result<Output, AllocError>
 fn limit(alloc: Global, which: Which, bit: u64) -> Result<Output, AllocError>
     ensures status { IfOk result (λ output. output.status ≡ Status.Limit) }
     ensures bytes { IfOk result (λ output. output.bytes ≡ None) }
-    ensures text { IfOk result (λ output. string_bytes output.text ≡ limit_line (limit_name which) bit) }
+    ensures text { IfOk result (λ output. output.text ≡ limit_line (limit_name which) bit) }
 {
     let name = named_limit(which);
-    let text = format!(in alloc; "limit {name} bit {bit}\n")?;
+    let line = format!(in alloc; "limit {name} bit {bit}\n")?;
+    let text = bytes_of_text(alloc, line.as_str())?;
     Ok(Output {
         status: Status::Limit,
         bytes: None,
@@ -84,18 +98,30 @@ fn limit(alloc: Global, which: Which, bit: u64) -> Result<Output, AllocError>
 fn success(alloc: Global, words: &Words) -> Result<Output, AllocError>
     ensures status { IfOk result (λ output. output.status ≡ Status.Done) }
     ensures bytes { IfOk result (λ output. output.bytes ≡ Some (bytes_of_words words.now)) }
-    ensures text { IfOk result (λ output. string_bytes output.text ≡ translated_line (length words.now)) }
+    ensures text { IfOk result (λ output. output.text ≡ translated_line (length words.now)) }
 {
     let Ok(bytes) = bytes_of(alloc, words) else {
         return Err(AllocError);
     };
     let count = words.len();
-    let text = format!(in alloc; "translated {count} words\n")?;
+    let line = format!(in alloc; "translated {count} words\n")?;
+    let text = bytes_of_text(alloc, line.as_str())?;
     Ok(Output {
         status: Status::Done,
         bytes: Some(bytes),
         text,
     })
+}
+
+/// The output for a file that breaks a rule or passes a limit.
+fn fault_output(alloc: Global, fault: Fault) -> Result<Output, AllocError>
+    ensures { IfOk result (λ output. IsFaultOutput fault output) }
+{
+    match fault {
+        Fault::Refused { rule, bit } => refusal(alloc, rule, bit),
+        Fault::Limit { which, bit } => limit(alloc, which, bit),
+        Fault::OutOfMemory => Err(AllocError),
+    }
 }
 
 /// All that `translate` writes and says for a file of these bytes, at most 2^26.
@@ -105,8 +131,21 @@ pub fn output_for(alloc: Global, bytes: &[u8]) -> Result<Output, AllocError>
 {
     match translate(alloc, bytes) {
         Ok(words) => success(alloc, &words),
-        Err(Fault::Refused { rule, bit }) => refusal(alloc, rule, bit),
-        Err(Fault::Limit { which, bit }) => limit(alloc, which, bit),
-        Err(Fault::OutOfMemory) => Err(AllocError),
+        Err(fault) => fault_output(alloc, fault),
+    }
+}
+
+/// All that `show` says for a file of these bytes, at most 2^26.
+pub fn listing_for(alloc: Global, bytes: &[u8]) -> Result<Output, AllocError>
+    requires { length bytes.now ≤ 2 ^ 26 }
+    ensures { IfOk result (λ output. IsListing bytes.now output) }
+{
+    match show(alloc, bytes) {
+        Ok(text) => Ok(Output {
+            status: Status::Done,
+            bytes: None,
+            text,
+        }),
+        Err(fault) => fault_output(alloc, fault),
     }
 }

@@ -1,11 +1,11 @@
 ghost use Rattle.std.specs.Prelude.{◌≡◌, map, string_bytes, []};
 ghost use Rattle.dx_outside.specs.Outside.{Rose, FilesNeverFell, SinkNeverFell};
-ghost use Rattle.dxil_cli.specs.Commands.{command_of, translate as translate_command};
+ghost use Rattle.dxil_cli.specs.Commands.{command_of, translate as translate_command, show as show_command};
 ghost use Rattle.dxil_cli.specs.Runs.{Leaves, IsExact, IsComplete};
 ghost use Rattle.dxil_cli.specs.Outputs.{Finishes, Concluded};
 
 use crate::command_line::{CommandLine, parse_words};
-use crate::output::{Output, output_for};
+use crate::output::{Output, listing_for, output_for};
 use crate::status::Status;
 use dx_outside::{Files, Outage, Sink, Whole, read_whole, say};
 use std::alloc::Global;
@@ -33,10 +33,10 @@ fn finish<F: Files, S: Sink>(output: &Output, to: &str, files: &mut F, out: &mut
     ensures sink_counts { SinkNeverFell (S.seen out.old) (S.seen out.new) }
 {
     let Some(bytes) = &output.bytes else {
-        return conclude(output.status, output.text.as_bytes(), out);
+        return conclude(output.status, output.text.as_slice(), out);
     };
     match files.write_new(to, bytes.as_slice()) {
-        Ok(()) => conclude(output.status, output.text.as_bytes(), out),
+        Ok(()) => conclude(output.status, output.text.as_slice(), out),
         Err(Outage::Failed) => Status::WriteFault,
         Err(Outage::OutOfMemory) => Status::OutOfMemory,
     }
@@ -65,6 +65,23 @@ fn translate_file<F: Files, S: Sink>(
     }
 }
 
+/// The command `show IN`.
+fn show_file<F: Files, S: Sink>(alloc: Global, from: &str, files: &mut F, out: &mut S) -> Status
+    ensures leaves { Leaves (show_command from.now) (F.seen files.old) (S.seen out.old) (F.seen files.new) (S.seen out.new) result }
+    ensures file_counts { FilesNeverFell (F.seen files.old) (F.seen files.new) }
+    ensures sink_counts { SinkNeverFell (S.seen out.old) (S.seen out.new) }
+{
+    match read_whole(alloc, files, from) {
+        Whole::Read(bytes) => match listing_for(alloc, bytes.as_slice()) {
+            Ok(output) => conclude(output.status, output.text.as_slice(), out),
+            Err(_) => Status::OutOfMemory,
+        },
+        Whole::TooLong => conclude(Status::Limit, TOO_LONG, out),
+        Whole::Failed => Status::ReadFault,
+        Whole::OutOfMemory => Status::OutOfMemory,
+    }
+}
+
 /// Does what the words ask.
 fn perform<F: Files, S: Sink>(alloc: Global, words: &[String], files: &mut F, out: &mut S) -> Status
     ensures leaves { Leaves (command_of (map string_bytes words.now)) (F.seen files.old) (S.seen out.old) (F.seen files.new) (S.seen out.new) result }
@@ -74,6 +91,7 @@ fn perform<F: Files, S: Sink>(alloc: Global, words: &[String], files: &mut F, ou
 {
     match parse_words(words) {
         CommandLine::Translate { from, to } => translate_file(alloc, from, to, files, out),
+        CommandLine::Show { from } => show_file(alloc, from, files, out),
         CommandLine::Unknown => conclude(Status::Usage, USAGE, out),
     }
 }

@@ -1,4 +1,4 @@
-use Rattle.dxil_cli.proofs.Comparison.{fits_where, fits_nowhere}
+use Rattle.dxil_cli.proofs.Table.{fits_where, fits_nowhere}
 use Rattle.dxil_cli.proofs.empty_shader.fits.Goals as goal
 
 pub returns-in-Some : goal.returns-in-Some

@@ -1,4 +1,4 @@
-use Rattle.dxil_cli.proofs.Comparison.{copied_at, seen_at}
+use Rattle.dxil_cli.proofs.Table.{copied_at, seen_at}
 use Rattle.dxil_cli.proofs.empty_shader.known_at.Goals as goal
 
 pub returns : goal.returns

@@ -1,11 +1,11 @@
-use Rattle.dxil_cli.proofs.VerdictLaws.{other_verdict, bad_verdict, good_verdict}
+use Rattle.dxil_cli.proofs.Comparisons.{kept_all, of_kept, compare_fails}
 use Rattle.dxil_cli.proofs.translate.translate_items.Goals as goal
 
-pub returns-in-Some : goal.returns-in-Some
-returns-in-Some c = other_verdict _ _ _ c.in-Some.ensures
-
-pub returns-then-are_bad : goal.returns-then-are_bad
-returns-then-are_bad c = bad_verdict _ _ _ _ _ _ _ c.threads_of-threads.ensures.shader c.threads_of-threads.ensures.second c.if-are_bad.true c.are_bad.ensures c.counts_bit.ensures
+pub translate_shader-requires : goal.translate_shader-requires
+translate_shader-requires c = kept_all _ _ _ _ _ c.as_slice-in-Ok.ensures c.as_slice.ensures c.requires c.in-Ok.ensures
 
 pub returns-in-Ok : goal.returns-in-Ok
-returns-in-Ok c = good_verdict _ _ _ _ _ _ _ c.threads_of-threads.ensures.shader c.threads_of-threads.ensures.second c.if-are_bad.false c.are_bad.ensures c.in-Ok.ensures
+returns-in-Ok c = of_kept c.args.items.now.list _ _ _ _ _ c.as_slice-in-Ok.ensures c.as_slice.ensures c.in-Ok.ensures.0 c.translate_shader.ensures
+
+pub returns-in-Err : goal.returns-in-Err
+returns-in-Err c = compare_fails _ _ _ c.in-Err.ensures

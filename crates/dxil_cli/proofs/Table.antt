@@ -4,7 +4,7 @@ use denote.Bor.{Bor}
 use Rattle.std.specs.Option.{option_map, option_copied}
 use Rattle.std.specs.Slice.{IsItemAt}
 use Rattle.std.proofs.lemmas.Option.{slice_get-map, slice_get_past, slice_get_read}
-use Rattle.dx_bitstream.specs.declared.item.Item.{Item}
+use Rattle.bitstream_spelling.specs.declared.item.Item.{Item}
 use Rattle.dxil_cli.specs.EmptyShader.{Expected, empty_shader, IsAs, Fits}
 use Rattle.dxil_cli.specs.Comparing.{seen}
 use Rattle.dxil_cli.specs.declared.empty_shader.Known.{Known}
