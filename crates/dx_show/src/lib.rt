@@ -26,7 +26,11 @@ pub fn show(alloc: Global, bytes: &[u8]) -> Result<Bytes, Fault>
     ensures { ShowAnswer result bytes.now }
 {
     match read_file(alloc, bytes) {
-        Ok(file) => match lines_of(alloc, file.parts.list.as_slice(), file.items.list.as_slice()) {
+        Ok(file) => match lines_of(
+            alloc,
+            file.parts.list.as_slice(),
+            file.items.list.as_slice(),
+        ) {
             Ok(text) => Ok(text),
             Err(OutOfMemory) => Err(Fault::OutOfMemory),
         },

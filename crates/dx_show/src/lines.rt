@@ -5,8 +5,8 @@ ghost use Rattle.std.specs.List.{flat_map};
 ghost use Rattle.dx_show.specs.Lines.{shown as shown_as, part_line, block_line, record_line, item_line, lines};
 
 use crate::text::{push_all, push_number};
-use dx_base::{Bytes, List, OutOfMemory};
 use bitstream_spelling::Item;
+use dx_base::{Bytes, List, OutOfMemory};
 use dxbc_container::Part;
 use std::alloc::Global;
 
@@ -14,7 +14,11 @@ use std::alloc::Global;
 fn shown(byte: u8) -> u8
     ensures { result ≡ shown_as byte }
 {
-    if (0x21..=0x7E).contains(&byte) { byte } else { b'.' }
+    if (0x21..=0x7E).contains(&byte) {
+        byte
+    } else {
+        b'.'
+    }
 }
 
 fn push_name(text: &mut Bytes, name: &[u8]) -> Result<(), OutOfMemory>
@@ -66,7 +70,12 @@ fn push_item(text: &mut Bytes, item: &Item) -> Result<(), OutOfMemory>
 {
     match item {
         Item::Enter { id, bit, .. } => push_block(text, b"block ", *id, *bit),
-        Item::Record { code, count, bit, .. } => push_record(text, *code, *count, *bit),
+        Item::Record {
+            code,
+            count,
+            bit,
+            ..
+        } => push_record(text, *code, *count, *bit),
         Item::Skip { id, bit, .. } => push_block(text, b"skip ", *id, *bit),
         Item::End { .. } => Ok(()),
     }

@@ -15,7 +15,7 @@ pub compared-append : (ids : List ℕ) (xs ys : List Item) → compared_in ids (
 compared-append ids [] ys = refl
 compared-append ids (x ∷ xs) ys =
     elim (is_passed (is_info ids) x) as (λ (b : Bool). (if b then compared_in (open_after ids x) (xs ++ ys) else x ∷ compared_in (open_after ids x) (xs ++ ys))
-        ≡ (if b then compared_in (open_after ids x) xs else x ∷ compared_in (open_after ids x) xs) ++ compared_in (open_behind (open_after ids x) xs) ys) [
+    ≡ (if b then compared_in (open_after ids x) xs else x ∷ compared_in (open_after ids x) xs) ++ compared_in (open_behind (open_after ids x) xs) ys) [
       | true ↦ compared-append (open_after ids x) xs ys
       | false ↦ ap (λ (zs : List Item). x ∷ zs) (compared-append (open_after ids x) xs ys)
     ]

@@ -1,4 +1,4 @@
-ghost use Rattle.std.specs.Prelude.{None};
+ghost use Rattle.std.specs.Prelude.{None, ◌<◌, ◌^◌};
 
 use crate::example::{CONTAINER, MODULE};
 use crate::{Status, run};
@@ -10,7 +10,38 @@ const USAGE: &[u8] = b"usage: translate IN OUT, show IN, check IN, sample N OUT\
 
 const TRANSLATED: &[u8] = b"translated 38 words\n";
 
+const SHOWN: &[u8] = b"part DXIL at 36 size 40\nblock 8 bit 576\nrecord 1 fields 1 bit 640\n";
+
 const TRANSLATE: [&str; 3] = ["translate", "a", "b"];
+
+const SHOW: [&str; 2] = ["show", "a"];
+
+/// A container whose module has one record.
+const SMALL: [u8; 84] = [
+    0x44, 0x58, 0x42, 0x43, 0, 0, 0, 0, 0, 0, 0, 0, 0, 0, 0, 0, 0, 0, 0, 0, 1, 0, 0, 0, 0x54, 0, 0,
+    0, 1, 0, 0, 0, 0x24, 0, 0, 0, 0x44, 0x58, 0x49, 0x4C, 0x28, 0, 0, 0, 0x60, 0, 5, 0, 10, 0, 0,
+    0, 0x44, 0x58, 0x49, 0x4C, 0, 1, 0, 0, 0x10, 0, 0, 0, 0x10, 0, 0, 0, 0x42, 0x43, 0xC0, 0xDE,
+    0x21, 0x0C, 0, 0, 1, 0, 0, 0, 0x0B, 0x82, 0, 0,
+];
+
+/// One whose module defines an abbreviation with a number of no bits and an array of characters, and has a record by it.
+const ABBREVIATED: [u8; 88] = [
+    0x44, 0x58, 0x42, 0x43, 0, 0, 0, 0, 0, 0, 0, 0, 0, 0, 0, 0, 0, 0, 0, 0, 1, 0, 0, 0, 0x58, 0, 0,
+    0, 1, 0, 0, 0, 0x24, 0, 0, 0, 0x44, 0x58, 0x49, 0x4C, 0x2C, 0, 0, 0, 0x60, 0, 5, 0, 11, 0, 0,
+    0, 0x44, 0x58, 0x49, 0x4C, 0, 1, 0, 0, 0x10, 0, 0, 0, 0x14, 0, 0, 0, 0x42, 0x43, 0xC0, 0xDE,
+    0x21, 0x0C, 0, 0, 2, 0, 0, 0, 0x22, 0x05, 0x04, 0x18, 0x12, 0, 0, 0,
+];
+
+/// The fixed bytes of a container without a part, and of one with two.
+const NO_PART: [u8; 32] = [
+    0x44, 0x58, 0x42, 0x43, 0, 0, 0, 0, 0, 0, 0, 0, 0, 0, 0, 0, 0, 0, 0, 0, 1, 0, 0, 0, 32, 0, 0,
+    0, 0, 0, 0, 0,
+];
+
+const TWO_PARTS: [u8; 40] = [
+    0x44, 0x58, 0x42, 0x43, 0, 0, 0, 0, 0, 0, 0, 0, 0, 0, 0, 0, 0, 0, 0, 0, 1, 0, 0, 0, 136, 0, 0,
+    0, 2, 0, 0, 0, 40, 0, 0, 0, 88, 0, 0, 0,
+];
 
 /// No call of this number is made.
 const NEVER: u64 = u64::MAX;
@@ -78,6 +109,20 @@ fn each_call_fails_in_turn(rt: HostRuntime) -> Result<(), Fail> {
         assert_eq!(rt; has.map(|bytes| bytes.len()), written.then_some(152));
         assert_eq!(rt; out.taken(), said);
     }
+    // `show` reads twice, never writes a file, and says its lines in one call
+    let table = [
+        (0, NEVER, Status::ReadFault, b"".as_slice()),
+        (1, NEVER, Status::ReadFault, b""),
+        (2, NEVER, Status::Done, SHOWN),
+        (NEVER, 0, Status::SayFault, b""),
+        (NEVER, 1, Status::Done, SHOWN),
+    ];
+    for (files_fail, sink_fails, status, said) in table {
+        let (ended, has, out) = attempt(rt.alloc(), &SHOW, &SMALL, files_fail, sink_fails)?;
+        assert_eq!(rt; ended, status, "files {files_fail}, sink {sink_fails}");
+        assert!(rt; has.is_none());
+        assert_eq!(rt; out.taken(), said);
+    }
     Ok(())
 }
 
@@ -89,16 +134,132 @@ fn other_answers_change_no_file(rt: HostRuntime) -> Result<(), Fail> {
         (&["translate", "a"], NEVER, Status::Usage, USAGE),
         (&["Translate", "a", "b"], NEVER, Status::Usage, USAGE),
         (&["translate", "a", "b", "c"], NEVER, Status::Usage, USAGE),
+        (&["show"], NEVER, Status::Usage, USAGE),
+        (&["Show", "a"], NEVER, Status::Usage, USAGE),
+        (&["show", "a", "b"], NEVER, Status::Usage, USAGE),
         (&[], 0, Status::SayFault, b""),
         (&TRANSLATE, NEVER, Status::Refused, refused),
         (&TRANSLATE, 0, Status::SayFault, b""),
         (&["translate", "c", "b"], NEVER, Status::ReadFault, b""),
+        (&SHOW, NEVER, Status::Refused, refused),
+        (&SHOW, 0, Status::SayFault, b""),
+        (&["show", "c"], NEVER, Status::ReadFault, b""),
     ];
     for (words, sink_fails, status, said) in table {
         let (ended, has, out) = attempt(rt.alloc(), words, b"", NEVER, sink_fails)?;
         assert_eq!(rt; ended, status, "{words:?}");
         assert!(rt; has.is_none(), "{words:?}");
         assert_eq!(rt; out.taken(), said, "{words:?}");
+    }
+    Ok(())
+}
+
+/// The bytes with some that are set.
+fn changed(alloc: Global, bytes: &[u8], changes: &[(usize, u8)]) -> Result<Vec<u8>, Fail> {
+    let mut all = bytes.to_vec(alloc)?;
+    for (place, byte) in changes {
+        if *place < all.len() {
+            all[*place] = *byte;
+        }
+    }
+    Ok(all)
+}
+
+#[test]
+fn files_have_these_answers(rt: HostRuntime) -> Result<(), Fail> {
+    let mut two = TWO_PARTS.to_vec(rt.alloc())?;
+    two.extend_from_slice(&SMALL[36..])?;
+    two.extend_from_slice(&SMALL[36..])?;
+    let two = two.as_slice();
+    // the file and its bytes that are set, what `translate` says of it, and `show`, where that is something else
+    let table: [(&[u8], &[(usize, u8)], &[u8], &[u8]); 14] = [
+        (&SMALL, &[], b"refused NotYet bit 661\n", SHOWN),
+        (
+            &ABBREVIATED,
+            &[],
+            b"refused NotYet bit 674\n",
+            b"part DXIL at 36 size 44\nblock 8 bit 576\nrecord 2 fields 1 bit 674\n",
+        ),
+        (&SMALL[..83], &[], b"refused C3 bit 192\n", b""),
+        (&SMALL[..83], &[(24, 83)], b"refused C5 bit 320\n", b""),
+        (
+            &SMALL[..83],
+            &[(24, 83), (40, 39)],
+            b"refused C9 bit 480\n",
+            b"",
+        ),
+        (&NO_PART, &[], b"refused C6 bit 256\n", b""),
+        (two, &[], b"refused C7 bit 288\n", b""),
+        (two, &[(92, 41)], b"refused C7 bit 288\n", b""),
+        (
+            &CONTAINER,
+            &[(56, 3), (57, 1)],
+            b"refused C8 bit 448\n",
+            b"",
+        ),
+        (&SMALL, &[(68, 0)], b"refused B1 bit 544\n", b""),
+        (&SMALL, &[(73, 0x10), (80, 9)], b"refused B3 bit 640\n", b""),
+        (&SMALL, &[(76, 2)], b"refused B5 bit 576\n", b""),
+        (&SMALL, &[(73, 0x04)], b"refused B8 bit 576\n", b""),
+        (&SMALL[..31], &[], b"refused C1 bit 0\n", b""),
+    ];
+    for (bytes, changes, translated, shown) in table {
+        let bytes = changed(rt.alloc(), bytes, changes)?;
+        let bytes = bytes.as_slice();
+        let (status, written, out) = attempt(rt.alloc(), &TRANSLATE, bytes, NEVER, NEVER)?;
+        assert_eq!(rt; status, Status::Refused, "{changes:?}");
+        assert!(rt; written.is_none(), "{changes:?}");
+        assert_eq!(rt; out.taken(), translated, "{changes:?}");
+        let (status, written, out) = attempt(rt.alloc(), &SHOW, bytes, NEVER, NEVER)?;
+        let done = !shown.is_empty();
+        assert_eq!(rt; status == Status::Done, done, "{changes:?}");
+        assert_eq!(rt; status == Status::Refused, !done, "{changes:?}");
+        assert!(rt; written.is_none(), "{changes:?}");
+        assert_eq!(rt;
+            out.taken(),
+            if done { shown } else { translated },
+            "{changes:?}"
+        );
+    }
+    Ok(())
+}
+
+/// Sets the four bytes from a place on, the least significant first.
+fn set_number(bytes: &mut Vec<u8>, place: usize, number: u32)
+    requires { place < 2 ^ 32 }
+{
+    for (at, byte) in number.to_le_bytes().iter().enumerate() {
+        if place + at < bytes.len() {
+            bytes[place + at] = *byte;
+        }
+    }
+}
+
+/// A file of more records than the limit, each of them three bits: the id of the one abbreviation, which is a literal 1.
+fn many_records(alloc: Global) -> Result<Vec<u8>, Fail> {
+    let mut bytes = SMALL[..80].to_vec(alloc)?;
+    bytes.extend_from_slice(&[0x0A, 0x03, 0x48])?;
+    for _ in 0..524_300 {
+        bytes.extend_from_slice(&[0x92, 0x24, 0x49])?;
+    }
+    for (place, size) in [(24, 1_572_983), (40, 1_572_939), (64, 1_572_915)] {
+        set_number(&mut bytes, place, size);
+    }
+    Ok(bytes)
+}
+
+#[test]
+fn a_record_too_many_passes_the_limit(rt: HostRuntime) -> Result<(), Fail> {
+    let bytes = many_records(rt.alloc())?;
+    for words in [TRANSLATE.as_slice(), SHOW.as_slice()] {
+        let (status, written, out) = attempt(rt.alloc(), words, bytes.as_slice(), NEVER, NEVER)?;
+        assert_eq!(rt; status, Status::Limit, "{words:?}");
+        assert!(rt; written.is_none(), "{words:?}");
+        assert_eq!(rt;
+            out.taken(),
+            b"limit records bit 12583569\n".as_slice(),
+            "{words:?}"
+        );
     }
     Ok(())
 }
@@ -188,21 +349,26 @@ impl Files for PaddedFile {
 
 #[test]
 fn file_of_the_most_bytes_is_read(rt: HostRuntime) -> Result<(), Fail> {
-    let words = words_of(rt.alloc(), &TRANSLATE)?;
-    for (length, limited) in [(1 << 26, false), ((1 << 26) + 1, true)] {
+    let most: u64 = 1 << 26;
+    let shown = b"part DXIL at 36 size 228\nblock 8 bit 576\n".as_slice();
+    let limit = b"limit file bit 0\n".as_slice();
+    let table = [
+        (TRANSLATE.as_slice(), most, Status::Done, TRANSLATED),
+        (&TRANSLATE, most + 1, Status::Limit, limit),
+        (&SHOW, most, Status::Done, shown),
+        (&SHOW, most + 1, Status::Limit, limit),
+    ];
+    for (words, length, status, front) in table {
+        let all = words_of(rt.alloc(), words)?;
         let mut out = SteadySink::new(rt.alloc());
-        let status = run(
+        let ended = run(
             rt.alloc(),
-            words.as_slice(),
+            all.as_slice(),
             &mut PaddedFile { length },
             &mut out,
         );
-        assert_eq!(rt; status == Status::Limit, limited, "{length} bytes");
-        assert_eq!(rt;
-            out.taken() == b"limit file bit 0\n".as_slice(),
-            limited,
-            "{length} bytes"
-        );
+        assert_eq!(rt; ended, status, "{words:?}, {length} bytes");
+        assert!(rt; out.taken().starts_with(front), "{words:?}, {length} bytes");
     }
     Ok(())
 }

@@ -5,7 +5,7 @@ mod plain;
 use super::translate;
 use crate::example::{CONTAINER, MODULE};
 use dx_base::{Fault, Rule};
-use plain::shader;
+use plain::{shader, shader_among_others};
 use std::test::Fail;
 
 /// A container whose module has one record.
@@ -27,10 +27,10 @@ fn refuses_at_the_first_place_that_departs(rt: HostRuntime) -> Result<(), Fail> 
     let files: [(&[u8], Rule, u64); 6] = [
         (&[], Rule::C(1), 0),
         (&CONTAINER[..31], Rule::C(1), 0),
-        (&CONTAINER[..32], Rule::NotYet, 192),
+        (&CONTAINER[..32], Rule::C(3), 192),
         (&SMALL, Rule::NotYet, 661),
-        (&SMALL[..83], Rule::NotYet, 192),
-        (&CONTAINER[..271], Rule::NotYet, 192),
+        (&SMALL[..83], Rule::C(3), 192),
+        (&CONTAINER[..271], Rule::C(3), 192),
     ];
     for (bytes, rule, bit) in files {
         assert_eq!(rt;
@@ -43,26 +43,27 @@ fn refuses_at_the_first_place_that_departs(rt: HostRuntime) -> Result<(), Fail> 
 }
 
 #[test]
-fn asks_each_byte_of_the_form_in_order(rt: HostRuntime) -> Result<(), Fail> {
-    let changes: [(usize, Option<(Rule, u64)>); 19] = [
+fn asks_each_byte_of_the_container_in_order(rt: HostRuntime) -> Result<(), Fail> {
+    let changes: [(usize, Option<(Rule, u64)>); 20] = [
         (3, Some((Rule::C(1), 0))),
         (4, None),
         (19, None),
-        (20, Some((Rule::NotYet, 160))),
-        (27, Some((Rule::NotYet, 192))),
-        (28, Some((Rule::NotYet, 224))),
-        (32, Some((Rule::NotYet, 256))),
-        (39, Some((Rule::NotYet, 288))),
-        (40, Some((Rule::NotYet, 320))),
-        (46, Some((Rule::NotYet, 352))),
+        (20, Some((Rule::C(2), 160))),
+        (27, Some((Rule::C(3), 192))),
+        (28, Some((Rule::C(6), 256))),
+        (32, Some((Rule::C(6), 288))),
+        (39, Some((Rule::C(6), 288))),
+        (40, Some((Rule::C(5), 320))),
+        (46, Some((Rule::C(8), 352))),
         (48, None),
-        (52, Some((Rule::NotYet, 416))),
-        (56, Some((Rule::NotYet, 448))),
-        (60, Some((Rule::NotYet, 480))),
-        (64, Some((Rule::NotYet, 512))),
-        (71, Some((Rule::NotYet, 544))),
-        (76, Some((Rule::NotYet, 544))),
-        (80, Some((Rule::NotYet, 544))),
+        (52, Some((Rule::C(8), 416))),
+        (56, None),
+        (57, Some((Rule::C(8), 448))),
+        (60, Some((Rule::C(9), 480))),
+        (64, Some((Rule::C(9), 480))),
+        (71, Some((Rule::B(1), 544))),
+        (76, Some((Rule::B(5), 576))),
+        (80, Some((Rule::B(5), 576))),
         (271, None),
     ];
     for (place, wanted) in changes {
@@ -143,5 +144,16 @@ fn thread_counts_up_to_their_last_values(rt: HostRuntime) -> Result<(), Fail> {
     }
     let written = shader(rt.alloc(), 16, 2)?;
     assert_eq!(rt; written.as_slice(), CONTAINER.as_slice());
+    Ok(())
+}
+
+#[test]
+fn skipped_blocks_and_blocks_0_are_passed_over(rt: HostRuntime) -> Result<(), Fail> {
+    let bytes = shader_among_others(rt.alloc())?;
+    assert!(rt; bytes.len() <= 400);
+    let words = translate(rt.alloc(), bytes.as_slice())
+        .ok()
+        .ok_or("refused")?;
+    assert_eq!(rt; words.as_slice(), MODULE.as_slice());
     Ok(())
 }

@@ -1,4 +1,4 @@
-//! Writes containers of one part whose bitcode has no abbreviations.
+//! Writes containers of one part, by bits.
 
 ghost use Rattle.std.specs.Prelude.{◌≤◌};
 
@@ -143,9 +143,9 @@ fn rows(alloc: Global, rows: &[Row]) -> Result<Bits, AllocError> {
     Ok(bits)
 }
 
-/// The container of the empty shader whose fourth and fifth INTEGER have these fields.
-pub fn shader(alloc: Global, fourth: u64, fifth: u64) -> Result<Vec<u8>, AllocError> {
-    let constants: [Row; 6] = [
+/// The constants, of which the fourth and fifth INTEGER have these fields.
+fn constants(alloc: Global, fourth: u64, fifth: u64) -> Result<Bits, AllocError> {
+    let all: [Row; 6] = [
         (1, &[2]),
         (4, &[12]),
         (4, &[0]),
@@ -153,16 +153,11 @@ pub fn shader(alloc: Global, fourth: u64, fifth: u64) -> Result<Vec<u8>, AllocEr
         (4, &[fourth]),
         (4, &[fifth]),
     ];
-    let mut module = Bits::new(alloc);
-    module.record(3, (1, &[1]))?;
-    module.block(3, 17, 4, rows(alloc, &TYPES)?)?;
-    module.record(3, (8, &[1, 0, 0, 0]))?;
-    module.block(3, 11, 4, rows(alloc, &constants)?)?;
-    module.block(3, 15, 4, rows(alloc, &METADATA)?)?;
-    module.block(3, 12, 4, rows(alloc, &BODY)?)?;
-    let mut bitcode = Bits::new(alloc);
-    bitcode.fixed(0xDEC0_4342, 32)?;
-    bitcode.block(2, 8, 3, module)?;
+    rows(alloc, &all)
+}
+
+/// The container of one part with this bitcode.
+fn container(alloc: Global, bitcode: &Bits) -> Result<Vec<u8>, AllocError> {
     let size = bitcode.all.len() as u64 / 8;
     let mut bits = Bits::new(alloc);
     for number in [0x4342_5844, 0, 0, 0, 0, 1, size + 68, 1, 36] {
@@ -184,4 +179,59 @@ pub fn shader(alloc: Global, fourth: u64, fifth: u64) -> Result<Vec<u8>, AllocEr
         bits.all.push(*bit)?;
     }
     bits.bytes(alloc)
+}
+
+/// The container of the empty shader whose fourth and fifth INTEGER have these fields.
+pub fn shader(alloc: Global, fourth: u64, fifth: u64) -> Result<Vec<u8>, AllocError> {
+    let mut module = Bits::new(alloc);
+    module.record(3, (1, &[1]))?;
+    module.block(3, 17, 4, rows(alloc, &TYPES)?)?;
+    module.record(3, (8, &[1, 0, 0, 0]))?;
+    module.block(3, 11, 4, constants(alloc, fourth, fifth)?)?;
+    module.block(3, 15, 4, rows(alloc, &METADATA)?)?;
+    module.block(3, 12, 4, rows(alloc, &BODY)?)?;
+    let mut bitcode = Bits::new(alloc);
+    bitcode.fixed(0xDEC0_4342, 32)?;
+    bitcode.block(2, 8, 3, module)?;
+    container(alloc, &bitcode)
+}
+
+/// A block 0 that gives to block 11 the abbreviation of a literal 4 and a number in chunks of 6 bits.
+fn info(alloc: Global) -> Result<Bits, AllocError> {
+    let mut bits = Bits::new(alloc);
+    bits.record(3, (1, &[11]))?;
+    bits.fixed(2, 3)?;
+    bits.chunks(2, 5)?;
+    bits.fixed(1, 1)?;
+    bits.chunks(4, 8)?;
+    bits.fixed(2 << 1, 4)?;
+    bits.chunks(6, 5)?;
+    Ok(bits)
+}
+
+/// The container of the empty shader of 8, 4 and 1 threads, with skipped blocks and blocks 0 among its items, and its constants by an abbreviation.
+pub fn shader_among_others(alloc: Global) -> Result<Vec<u8>, AllocError> {
+    let mut numbers = Bits::new(alloc);
+    numbers.record(4, (1, &[2]))?;
+    for number in [12, 0, 8, 16, 2] {
+        numbers.fixed(4, 4)?;
+        numbers.chunks(number, 6)?;
+    }
+    let mut body = rows(alloc, &BODY)?;
+    body.block(4, 14, 4, rows(alloc, &[(1, &[0, 97])])?)?;
+    let mut module = Bits::new(alloc);
+    module.record(3, (1, &[1]))?;
+    module.block(3, 0, 3, info(alloc)?)?;
+    module.block(3, 17, 4, rows(alloc, &TYPES)?)?;
+    module.block(3, 9, 4, rows(alloc, &TYPES)?)?;
+    module.record(3, (8, &[1, 0, 0, 0]))?;
+    module.block(3, 11, 4, numbers)?;
+    module.block(3, 15, 4, rows(alloc, &METADATA)?)?;
+    module.block(3, 12, 4, body)?;
+    let mut bitcode = Bits::new(alloc);
+    bitcode.fixed(0xDEC0_4342, 32)?;
+    bitcode.block(2, 0, 4, rows(alloc, &[(2, &[8])])?)?;
+    bitcode.block(2, 13, 5, rows(alloc, &BODY)?)?;
+    bitcode.block(2, 8, 3, module)?;
+    container(alloc, &bitcode)
 }
