@@ -166,7 +166,7 @@ written_takes bytes start i op.Char6 j l = omega (arith, l.2)
 written_takes bytes start i op.Blob j l = omega (arith, l.2)
 written_takes bytes start i op.Faulty j l = omega (arith, l.2)
 
-written_many : (bytes : List ℕ) (start i : ℕ) (ops : Abbreviation) (j : ℕ) → AreWritten bytes start i ops j → i + length ops ≤ j
+pub written_many : (bytes : List ℕ) (start i : ℕ) (ops : Abbreviation) (j : ℕ) → AreWritten bytes start i ops j → i + length ops ≤ j
 written_many bytes start i [] j l = omega (arith, l)
 written_many bytes start i (o ∷ os) j l = omega (arith, written_takes bytes start i o l.0 l.1, written_many bytes start l.0 os j l.2)
 

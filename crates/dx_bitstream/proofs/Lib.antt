@@ -1,0 +1,10 @@
+pub mod DefinitionLaws
+pub mod EndLaws
+pub mod EntryLaws
+pub mod FrontLaws
+pub mod Halting
+pub mod InfoLaws
+pub mod KindLaws
+pub mod PlaceLaws
+pub mod RecordLaws
+pub mod Standing
