@@ -1,16 +1,35 @@
 #!/usr/bin/env bash
 # What other programs say of this one's files. Each check is skipped where its tool is missing.
 #
-# spirv-val (Debian's spirv-tools) must accept the words of the sample shader.
+# spirv-val (Debian's spirv-tools) must accept the words of the sample shader. llvm-bcanalyzer (Debian's llvm-14) must count as many fields in each record of
+# the sample's bitcode as `show` does.
 set -u
 cd "$(dirname "$0")/.." || exit 1
 program=crates/dxil_cli/out/dxil_cli
-if ! command -v spirv-val >/dev/null 2>&1 || [ ! -x "$program" ]; then
-  echo "spirv-val: skipped"
+sample=crates/dxil_cli/data/e.dxbc
+if [ ! -x "$program" ]; then
+  echo "peers: skipped, there is no program"
   exit 0
 fi
 folder=$(mktemp -d)
 trap 'rm -rf "$folder"' EXIT
-"$program" translate crates/dxil_cli/data/e.dxbc "$folder/e.spv" || exit 1
-spirv-val --target-env vulkan1.3 "$folder/e.spv" || exit 1
-echo "spirv-val: accepts the sample's words"
+
+if command -v spirv-val >/dev/null 2>&1; then
+  "$program" translate "$sample" "$folder/e.spv" || exit 1
+  spirv-val --target-env vulkan1.3 "$folder/e.spv" || exit 1
+  echo "spirv-val: accepts the sample's words"
+else
+  echo "spirv-val: skipped"
+fi
+
+analyzer=$(command -v llvm-bcanalyzer-14 || command -v llvm-bcanalyzer)
+if [ -n "$analyzer" ]; then
+  # the sample's bitcode stands behind its first 68 bytes
+  tail -c +69 "$sample" >"$folder/e.bc"
+  "$program" show "$sample" | awk '/^record/ { print $4 }' >"$folder/ours"
+  "$analyzer" -dump "$folder/e.bc" | awk '/\/>/ { print gsub(/op[0-9]+=/, "") }' >"$folder/theirs"
+  cmp "$folder/ours" "$folder/theirs" || exit 1
+  echo "llvm-bcanalyzer: reads the sample's records as show does"
+else
+  echo "llvm-bcanalyzer: skipped"
+fi
