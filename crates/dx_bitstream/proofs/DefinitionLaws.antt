@@ -1,12 +1,12 @@
 -- The definition of an abbreviation.
-use Rattle.std.proofs.Common.{ap, refl, sym, ◌∙◌, subst, ℕ, ◌≡◌, ◌+◌, ◌-◌, ◌*◌, ◌<◌, ◌≤◌, ◌^◌, List, [], ◌∷◌, ◌++◌, length, arith, append-nil, All, Bool, true, false, Some, None, Option}
+use Rattle.std.proofs.Common.{ap, refl, sym, ◌∙◌, subst, ℕ, ◌≡◌, ◌+◌, ◌<◌, ◌≤◌, ◌^◌, List, [], ◌++◌, length, arith, append-nil, All, Bool, true, false, Some, None, Option}
 use Rattle.std.specs.Prelude.{IsSome}
 use Rattle.dx_base.specs.Bits.{IsVbr}
-use Rattle.dx_base.specs.Cursor.{Cursor, moved}
+use Rattle.dx_base.specs.Cursor.{Cursor}
 use Rattle.dx_base.proofs.VbrLaws.{vbr_takes}
-use Rattle.bitstream_spelling.specs.Layout.{Shape, defines, Abbreviation, AreWritten}
-use Rattle.bitstream_spelling.specs.Spelling.{Block, Place, Lays, next, defined, item}
-use Rattle.bitstream_spelling.specs.Rules.{Breaks, b4, b6, b7, b8, too_many_fields, IsFine, IsInside, IsSound, IsNamed, IsSmall, IsSmallOperand, records}
+use Rattle.bitstream_spelling.specs.Layout.{defines, Abbreviation}
+use Rattle.bitstream_spelling.specs.Spelling.{Place, Lays, defined}
+use Rattle.bitstream_spelling.specs.Rules.{b4, b6, b7, b8, too_many_fields, IsSound, IsNamed, IsSmall, IsSmallOperand, records}
 use Rattle.bitstream_spelling.specs.declared.item.Item.{Item}
 use Rattle.bitstream_spelling.proofs.Forward.{all_written_forward}
 use Rattle.bitstream_values.specs.Forms.{Ends}
@@ -15,10 +15,9 @@ use Rattle.bitstream_values.specs.declared.definition.Definition.{Definition}
 use Rattle.bitstream_values.proofs.FormLaws.{sound_form}
 use Rattle.bitstream_values.proofs.Written.{written_many}
 use Rattle.dx_bitstream.specs.Defining.{IsDefinitionAt, IsFiled, room_of}
-use Rattle.dx_bitstream.specs.Kinds.{number, id_of}
-use Rattle.dx_bitstream.specs.Places.{IsBlockOf, IsPlaceOf, IsAt, IsSteady, IsAfterId}
-use Rattle.dx_bitstream.specs.Steps.{Halts, least, IsStep, IsStepped}
-use Rattle.dx_bitstream.specs.declared.info.Info.{Info}
+use Rattle.dx_bitstream.specs.Kinds.{id_of}
+use Rattle.dx_bitstream.specs.Places.{IsPlaceOf, IsAt, IsSteady, IsAfterId}
+use Rattle.dx_bitstream.specs.Steps.{IsStep, IsStepped}
 use Rattle.dx_bitstream.specs.declared.kind.BlockKind.{BlockKind}
 use Rattle.dx_bitstream.specs.declared.kind.BlockKind.TheVariants.{BlockInfo, Module, Constants, Function, SymbolTable, Metadata, Types}
 use Rattle.dx_bitstream.specs.declared.reader.Open.{Open}

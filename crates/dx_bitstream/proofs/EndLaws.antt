@@ -1,15 +1,15 @@
 -- The end of a block.
-use Rattle.std.proofs.Common.{ap, refl, sym, ◌∙◌, subst, ℕ, ◌≡◌, ◌+◌, ◌*◌, ◌<◌, ◌≤◌, ◌^◌, List, [], ◌∷◌, ◌++◌, length, arith, append-nil, Bool, true, false, IsTrue, ◌↔◌, Some, None, Option}
+use Rattle.std.proofs.Common.{ap, refl, sym, ◌∙◌, subst, ℕ, ◌≡◌, ◌+◌, ◌*◌, ◌<◌, ◌≤◌, List, [], ◌∷◌, ◌++◌, length, arith, append-nil, Bool, false, IsTrue, ◌↔◌, Some, None, Option}
 use Rattle.std.specs.Prelude.{eqb}
 use Rattle.dx_base.specs.Cursor.{Cursor, moved, aligned as aligned_cursor}
 use Rattle.bitstream_spelling.specs.Layout.{closes, aligned}
-use Rattle.bitstream_spelling.specs.Spelling.{Block, Place, Lays, left, ends_all, next}
-use Rattle.bitstream_spelling.specs.Rules.{Breaks, b3, b4, b5, b6, b7, b8, too_many_records, too_many_fields, IsInside, IsFine, records}
+use Rattle.bitstream_spelling.specs.Spelling.{Block, Place, Lays, left, ends_all}
+use Rattle.bitstream_spelling.specs.Rules.{Breaks, b3, b4, b5, b6, b7, b8, too_many_records, too_many_fields, IsInside, records}
 use Rattle.bitstream_spelling.specs.declared.item.Item.{Item}
 use Rattle.bitstream_spelling.specs.declared.item.Item.TheVariants.{End}
 use Rattle.bitstream_spelling.proofs.Forward.{above}
 use Rattle.dx_bitstream.specs.Kinds.{number, id_of}
-use Rattle.dx_bitstream.specs.Places.{AreBlocksOf, IsBlockOf, IsPlaceOf, IsAt, IsSteady, IsAfterId}
+use Rattle.dx_bitstream.specs.Places.{AreBlocksOf, IsAt, IsSteady, IsAfterId}
 use Rattle.dx_bitstream.specs.Steps.{Halts, least, IsStep, IsStepped}
 use Rattle.dx_bitstream.specs.declared.info.Info.{Info}
 use Rattle.dx_bitstream.specs.declared.kind.BlockKind.{BlockKind}

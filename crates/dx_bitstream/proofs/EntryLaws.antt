@@ -1,14 +1,11 @@
 -- The entry of a block.
-use Rattle.std.proofs.Common.{ap, refl, sym, ◌∙◌, subst, ℕ, ◌≡◌, ◌+◌, ◌*◌, ◌<◌, ◌≤◌, ◌^◌, List, [], ◌∷◌, ◌++◌, length, take, arith, append-nil, Bool, true, false, if◌then◌else◌, IsTrue, Some, None, Option}
-use Rattle.dx_base.specs.Bits.{IsVbr}
+use Rattle.std.proofs.Common.{ap, refl, sym, ◌∙◌, subst, ℕ, ◌≡◌, ◌+◌, ◌*◌, ◌<◌, ◌≤◌, ◌^◌, List, [], ◌∷◌, ◌++◌, length, take, arith, append-nil, Bool, true, false, if◌then◌else◌, Some, None, Option}
 use Rattle.dx_base.specs.Cursor.{Cursor, moved}
-use Rattle.dx_base.proofs.VbrLaws.{vbr_takes}
-use Rattle.bitstream_spelling.specs.Layout.{Shape, enters, Abbreviation}
-use Rattle.bitstream_spelling.specs.Spelling.{Block, Place, IsEntry, Lays, reach, reads, next, entered, item, given_to}
-use Rattle.bitstream_spelling.specs.Rules.{Breaks, b7, b8, IsFine, records, Within}
+use Rattle.bitstream_spelling.specs.Layout.{Shape, enters}
+use Rattle.bitstream_spelling.specs.Spelling.{Place, IsEntry, Lays, reach, reads, next, entered, item, given_to}
+use Rattle.bitstream_spelling.specs.Rules.{b7, b8, records, Within}
 use Rattle.bitstream_spelling.specs.declared.item.Item.{Item}
 use Rattle.bitstream_spelling.specs.declared.item.Item.TheVariants.{Enter, Skip}
-use Rattle.bitstream_spelling.proofs.Forward.{above}
 use Rattle.bitstream_spelling.proofs.Unique.{entry_unique}
 use Rattle.bitstream_values.specs.Entries.{IsSeen, NoEntry}
 use Rattle.bitstream_values.specs.declared.entry.Entry.{Entry}
@@ -17,12 +14,10 @@ use Rattle.bitstream_values.specs.declared.number.Seen.TheVariants.{Small, Large
 use Rattle.dx_bitstream.specs.Entering.{IsEntryAt, NoSmall}
 use Rattle.dx_bitstream.specs.Given.{given_of}
 use Rattle.dx_bitstream.specs.Kinds.{number, id_of, IsReadKind, IsPassed}
-use Rattle.dx_bitstream.specs.Places.{AreBlocksOf, IsBlockOf, IsPlaceOf, IsAt, IsSteady, IsAfterId}
-use Rattle.dx_bitstream.specs.Steps.{Halts, least, IsStep, IsStepped}
-use Rattle.dx_bitstream.specs.declared.info.Info.{Info}
+use Rattle.dx_bitstream.specs.Places.{IsBlockOf, IsAt, IsSteady, IsAfterId}
+use Rattle.dx_bitstream.specs.Steps.{IsStep, IsStepped}
 use Rattle.dx_bitstream.specs.declared.kind.BlockKind.{BlockKind}
 use Rattle.dx_bitstream.specs.declared.kind.BlockKind.TheVariants.{BlockInfo, Module, Constants, Function, SymbolTable, Metadata, Types}
-use Rattle.dx_bitstream.specs.declared.reader.Open.{Open}
 use Rattle.dx_bitstream.specs.declared.reader.Reader.{Reader}
 use Rattle.dx_bitstream.proofs.Halting.{AllHalt, at_bit, at_end, halts_by}
 use Rattle.dx_bitstream.proofs.PlaceLaws.{records_more, at_id, at_place}

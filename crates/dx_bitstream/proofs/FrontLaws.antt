@@ -1,22 +1,19 @@
 -- A reader behind the items that it has read.
-use Rattle.std.proofs.Common.{ap, refl, sym, ◌∙◌, subst, ℕ, ◌≡◌, ◌+◌, ◌*◌, ◌<◌, ◌≤◌, ◌^◌, List, [], ◌∷◌, ◌++◌, length, arith, Bool, true, false, IsTrue, ◌↔◌, Some, None, Option, Result, Ok, Err}
-use Rattle.dx_base.specs.Bits.{num}
+use Rattle.std.proofs.Common.{ap, refl, sym, ◌∙◌, subst, ℕ, ◌≡◌, ◌+◌, ◌<◌, ◌≤◌, ◌^◌, List, [], ◌++◌, length, arith, Bool, true, false, IsTrue, ◌↔◌, None, Ok, Err}
 use Rattle.dx_base.specs.Cursor.{Cursor, moved}
 use Rattle.dx_base.specs.declared.fault.Fault.{Fault}
 use Rattle.dx_base.specs.declared.fault.Fault.TheVariants.{Refused, Limit, OutOfMemory}
 use Rattle.dx_base.specs.declared.fault.Rule.TheVariants.{B}
-use Rattle.bitstream_spelling.specs.Spelling.{Place, next, item, fields as fields_of}
-use Rattle.bitstream_spelling.specs.Rules.{beginning, top, HasMagic, IsFront, begins, goes_on, IsOpen, IsWhole, AreWithin}
+use Rattle.bitstream_spelling.specs.Spelling.{Place, next, item}
+use Rattle.bitstream_spelling.specs.Rules.{beginning, HasMagic, IsFront, begins, goes_on, IsWhole, AreWithin}
 use Rattle.bitstream_spelling.specs.Framed.{IsFramed}
 use Rattle.bitstream_spelling.specs.declared.item.Item.{Item}
 use Rattle.bitstream_spelling.proofs.Fronts.{whole_sound, whole_unique}
 use Rattle.bitstream_spelling.proofs.FramedLaws.{whole_framed}
 use Rattle.dx_bitstream.specs.Answers.{ItemsAnswer, IsOnly}
 use Rattle.dx_bitstream.specs.Given.{given_of}
-use Rattle.dx_bitstream.specs.Places.{IsAt, IsSteady}
-use Rattle.dx_bitstream.specs.Steps.{HaltAnswer, IsSameRead, IsStep, IsStepped, NoStep, StepAnswer, IsAtFront, WholeAnswer}
+use Rattle.dx_bitstream.specs.Steps.{HaltAnswer, IsSameRead, IsStep, IsStepped, StepAnswer, IsAtFront, WholeAnswer}
 use Rattle.dx_bitstream.specs.declared.kind.BlockKind.{BlockKind}
-use Rattle.dx_bitstream.specs.declared.reader.Open.{Open}
 use Rattle.dx_bitstream.specs.declared.reader.Reader.{Reader}
 use Rattle.dx_bitstream.proofs.Halting.{AllHalt, at_end, fault_first, no_magic_first}
 use Rattle.dx_bitstream.proofs.PlaceLaws.{untrue}

@@ -1,22 +1,19 @@
 -- How a reading ends at a place.
-use Rattle.std.proofs.Common.{ap, refl, sym, ◌∙◌, subst, ℕ, ◌≡◌, ◌+◌, ◌*◌, ◌<◌, ◌≤◌, ◌^◌, ◌⊎◌, inl, inr, List, [], ◌∷◌, ◌++◌, length, arith, Bool, false, Result, Ok, Err}
+use Rattle.std.proofs.Common.{refl, sym, subst, ℕ, ◌≡◌, ◌<◌, ◌≤◌, ◌^◌, inl, inr, List, ◌++◌, length, arith, false, Err}
 use Rattle.std.proofs.lemmas.Bool.{cases_lt}
 use Rattle.dx_base.specs.First.{IsFirst}
 use Rattle.dx_base.specs.declared.fault.Fault.{Fault}
 use Rattle.dx_base.specs.declared.fault.Fault.TheVariants.{Refused, Limit, OutOfMemory}
-use Rattle.dx_base.specs.declared.fault.Rule.{Rule}
 use Rattle.dx_base.specs.declared.fault.Rule.TheVariants.{B, C, Y, M, N, P, NotYet}
-use Rattle.dx_base.specs.declared.fault.Which.{Which}
 use Rattle.dx_base.specs.declared.fault.Which.TheVariants as which
 use Rattle.bitstream_spelling.specs.Layout.{Shape}
-use Rattle.bitstream_spelling.specs.Spelling.{Place, Lays, item, fields as fields_of, operands as operands_of}
-use Rattle.bitstream_spelling.specs.Rules.{IsKnown, IsSoundShape, HasStatedLength, IsNamed, IsSmall, StandsRight, Within, Breaks, b3, b4, b5, b6, b7, b8, too_many_records, too_many_fields, records, IsOpen, IsWhole, IsBroken, PassesEnd, HasMagic}
+use Rattle.bitstream_spelling.specs.Spelling.{Place, Lays, item}
+use Rattle.bitstream_spelling.specs.Rules.{IsKnown, IsSoundShape, HasStatedLength, IsNamed, IsSmall, StandsRight, Within, Breaks, b3, b4, b5, b6, b7, b8, too_many_records, too_many_fields, records, IsOpen, IsBroken, PassesEnd, HasMagic}
 use Rattle.bitstream_spelling.specs.declared.item.Item.{Item}
 use Rattle.bitstream_spelling.proofs.Fronts.{whole_sound, short_first, first_here, magic_first}
-use Rattle.bitstream_values.specs.declared.record.Coded.{Coded}
 use Rattle.dx_bitstream.specs.Answers.{ItemsAnswer, NoItems}
 use Rattle.dx_bitstream.specs.Places.{IsAt}
-use Rattle.dx_bitstream.specs.Steps.{IsLeast, Halts, short, least, HaltAnswer, StepAnswer, TakenAnswer, NoStep}
+use Rattle.dx_bitstream.specs.Steps.{Halts, short, least, HaltAnswer, StepAnswer, TakenAnswer, NoStep}
 use Rattle.dx_bitstream.specs.declared.reader.Reader.{Reader}
 
 -- at a place no rule below a number is broken

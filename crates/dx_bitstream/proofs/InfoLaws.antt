@@ -1,13 +1,13 @@
 -- What BLOCKINFO gives to blocks.
-use Rattle.std.proofs.Common.{ap, refl, sym, ◌∙◌, subst, ℕ, ◌≡◌, ◌+◌, ◌<◌, ◌≤◌, List, [], ◌∷◌, ◌++◌, length, take, map, filter, arith, append-nil, length-append, append_assoc, Bool, true, false, if◌then◌else◌, Some, None, Option}
-use Rattle.std.specs.Prelude.{eqb, slice_get}
+use Rattle.std.proofs.Common.{ap, refl, sym, ◌∙◌, subst, ℕ, ◌≡◌, ◌+◌, List, [], ◌∷◌, ◌++◌, length, take, map, filter, arith, append-nil, length-append, append_assoc, Bool, true, false, if◌then◌else◌, Some, None, Option}
+use Rattle.std.specs.Prelude.{eqb}
 use Rattle.std.proofs.lemmas.Bool.Decides.{nat_tests}
 use Rattle.std.proofs.lemmas.List.{take-append-le, map-append}
 use Rattle.std.proofs.lemmas.List.Elements.{filter-append}
 use Rattle.bitstream_spelling.specs.Layout.{Abbreviation}
 use Rattle.bitstream_spelling.specs.Spelling.{Block, Place, given_to, defined}
 use Rattle.dx_bitstream.specs.Given.{given_of, IsGivenTo}
-use Rattle.dx_bitstream.specs.Kinds.{number, id_of, NoKind}
+use Rattle.dx_bitstream.specs.Kinds.{number, NoKind}
 use Rattle.dx_bitstream.specs.Places.{given_in, IsBlockOf, AreBlocksOf, IsGivenOf, IsPlaceOf}
 use Rattle.dx_bitstream.specs.Defining.{IsFiled}
 use Rattle.dx_bitstream.specs.declared.info.Info.{Info}

@@ -1,11 +1,10 @@
 -- Kinds of blocks and their ids.
-use Rattle.std.proofs.Common.{ap, refl, sym, ◌∙◌, subst, ℕ, zero, suc, ◌≡◌, ◌+◌, ◌<◌, ◌≤◌, ◌^◌, arith, Some, None, Option, Bool, true, false, ◌&&◌, ◌||◌, if◌then◌else◌}
+use Rattle.std.proofs.Common.{ap, refl, sym, ◌∙◌, subst, ℕ, ◌≡◌, ◌≤◌, ◌^◌, arith, Some, None, Option, Bool, true, false, ◌&&◌, if◌then◌else◌}
 use Rattle.std.specs.Prelude.{eqb}
 use Rattle.std.proofs.lemmas.Bool.Decides.{nat_tests}
 use Rattle.bitstream_spelling.specs.Spelling.{reads}
-use Rattle.bitstream_values.specs.Entries.{IsSeen}
 use Rattle.bitstream_values.specs.declared.number.Seen.{Seen}
-use Rattle.bitstream_values.specs.declared.number.Seen.TheVariants.{Small, Large, Short}
+use Rattle.bitstream_values.specs.declared.number.Seen.TheVariants.{Small}
 use Rattle.dx_bitstream.specs.Kinds.{number, id_of, NoKind, IsPassed}
 use Rattle.dx_bitstream.specs.declared.kind.BlockKind.{BlockKind}
 use Rattle.dx_bitstream.specs.declared.kind.BlockKind.TheVariants.{BlockInfo, Module, Constants, Function, SymbolTable, Metadata, Types}

@@ -1,20 +1,18 @@
 -- A reader and the place that it has come to.
-use Rattle.std.proofs.Common.{ap, refl, sym, ◌∙◌, subst, ℕ, ◌≡◌, ◌+◌, ◌*◌, ◌<◌, ◌≤◌, ◌^◌, List, [], ◌∷◌, ◌++◌, length, arith, append-nil, Bool, true, false, IsTrue, ◌↔◌, Some, None, Option, Result, Ok, Err}
+use Rattle.std.proofs.Common.{ap, refl, sym, ◌∙◌, subst, ℕ, ◌≡◌, ◌+◌, List, [], ◌∷◌, ◌++◌, arith, append-nil, Bool, true, false, IsTrue, ◌↔◌, Result, Ok, Err}
 use Rattle.std.specs.Result.{is_err, OnOk}
 use Rattle.std.proofs.lemmas.List.Sums.{sum_by-append}
 use Rattle.dx_base.specs.Bits.{num}
 use Rattle.dx_base.specs.Cursor.{Cursor, moved}
 use Rattle.dx_base.specs.declared.fault.Fault.{Fault}
 use Rattle.dx_base.specs.declared.fault.Fault.TheVariants.{Refused, Limit, OutOfMemory}
-use Rattle.dx_base.specs.declared.fault.Rule.{Rule}
 use Rattle.dx_base.specs.declared.fault.Rule.TheVariants.{B, C, Y, M, N, P, NotYet}
-use Rattle.dx_base.specs.declared.fault.Which.{Which}
 use Rattle.dx_base.specs.declared.fault.Which.TheVariants as which
 use Rattle.bitstream_spelling.specs.Spelling.{Block, Place}
 use Rattle.bitstream_spelling.specs.Rules.{IsInside, records, is_record}
 use Rattle.bitstream_spelling.specs.declared.item.Item.{Item}
-use Rattle.dx_bitstream.specs.Places.{IsBlockOf, AreBlocksOf, IsPlaceOf, IsAt, IsSteady, IsAfterId}
-use Rattle.dx_bitstream.specs.Steps.{HaltAnswer, IsSameRead, IsStep, IsStepped, NoStep, StepAnswer}
+use Rattle.dx_bitstream.specs.Places.{IsBlockOf, AreBlocksOf, IsAt}
+use Rattle.dx_bitstream.specs.Steps.{HaltAnswer, IsStepped, NoStep, StepAnswer}
 use Rattle.dx_bitstream.specs.declared.info.Info.{Info}
 use Rattle.dx_bitstream.specs.declared.reader.Open.{Open}
 use Rattle.dx_bitstream.specs.declared.reader.Reader.{Reader}

@@ -1,13 +1,12 @@
 -- Records.
-use Rattle.std.proofs.Common.{ap, refl, sym, ◌∙◌, subst, ℕ, zero, suc, ◌≡◌, ◌+◌, ◌-◌, ◌*◌, ◌<◌, ◌≤◌, ◌^◌, List, [], ◌∷◌, ◌++◌, length, drop, arith, append-nil, length-append, All, Bool, true, false, Some, None, Option}
+use Rattle.std.proofs.Common.{ap, refl, sym, ◌∙◌, subst, ℕ, zero, suc, ◌≡◌, ◌+◌, ◌-◌, ◌<◌, ◌≤◌, ◌^◌, List, [], ◌∷◌, ◌++◌, length, drop, arith, length-append, All, false, Some, None, Option}
 use Rattle.std.specs.Prelude.{slice_get}
 use Rattle.std.proofs.Math.Seq.{drop-append_seam}
-use Rattle.dx_base.specs.Cursor.{Cursor, moved}
-use Rattle.bitstream_spelling.specs.declared.operand.Operand.{Operand}
+use Rattle.dx_base.specs.Cursor.{Cursor}
 use Rattle.bitstream_spelling.specs.declared.operand.Operand.TheVariants.{Literal, Fixed, Vbr, Array, Char6, Blob, Faulty}
-use Rattle.bitstream_spelling.specs.Layout.{Shape, plain, by, unknown, Abbreviation, IsPlain, AreSpelled}
-use Rattle.bitstream_spelling.specs.Spelling.{Block, Place, Lays, next, naming, item, fields as fields_of, first_of_all, rest_of}
-use Rattle.bitstream_spelling.specs.Rules.{Breaks, b3, b6, b7, b8, too_many_records, too_many_fields, IsFine, IsInside, IsSound, IsNamed, IsSmall, StandsRight, Within, records, counted}
+use Rattle.bitstream_spelling.specs.Layout.{plain, by, unknown, Abbreviation, IsPlain, AreSpelled}
+use Rattle.bitstream_spelling.specs.Spelling.{Place, naming, first_of_all, rest_of}
+use Rattle.bitstream_spelling.specs.Rules.{Breaks, b3, b6, b7, b8, too_many_records, too_many_fields, IsInside, IsSound, IsNamed, IsSmall, Within, records, counted}
 use Rattle.bitstream_spelling.specs.declared.item.Item.{Item}
 use Rattle.bitstream_spelling.specs.declared.item.Item.TheVariants.{Record}
 use Rattle.bitstream_spelling.proofs.Forward.{spelled_forward}
@@ -20,10 +19,8 @@ use Rattle.bitstream_values.proofs.Arrays.{small_cons}
 use Rattle.bitstream_values.proofs.Parts.{spelled_uncons}
 use Rattle.dx_bitstream.specs.Kinds.{id_of}
 use Rattle.dx_bitstream.specs.Naming.{IsNaming}
-use Rattle.dx_bitstream.specs.Places.{IsBlockOf, AreBlocksOf, IsPlaceOf, IsAt, IsSteady, IsAfterId, FindAnswer}
-use Rattle.dx_bitstream.specs.Steps.{Halts, least, IsStep, IsStepped, IsRecordOf, IsRecordAt, IsRecordTaken}
-use Rattle.dx_bitstream.specs.declared.info.Info.{Info}
-use Rattle.dx_bitstream.specs.declared.kind.BlockKind.{BlockKind}
+use Rattle.dx_bitstream.specs.Places.{IsBlockOf, IsAt, IsSteady, IsAfterId, FindAnswer}
+use Rattle.dx_bitstream.specs.Steps.{Halts, IsStep, IsStepped, IsRecordOf, IsRecordAt, IsRecordTaken}
 use Rattle.dx_bitstream.specs.declared.kind.BlockKind.TheVariants.{BlockInfo}
 use Rattle.dx_bitstream.specs.declared.reader.Open.{Open}
 use Rattle.dx_bitstream.specs.declared.reader.Reader.{Reader}

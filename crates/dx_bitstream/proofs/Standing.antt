@@ -1,5 +1,5 @@
 -- What passes the end at a place, by its abbreviation id.
-use Rattle.std.proofs.Common.{ap, refl, sym, ◌∙◌, subst, ℕ, ◌≡◌, ◌+◌, ◌*◌, ◌<◌, ◌≤◌, List, [], ◌∷◌, length, arith, Some, None, Option, Bool, true, false, if◌then◌else◌}
+use Rattle.std.proofs.Common.{ap, ◌∙◌, subst, ℕ, ◌≡◌, ◌+◌, ◌*◌, ◌<◌, ◌≤◌, List, length, arith, Some, None, Option, Bool, true, false, if◌then◌else◌}
 use Rattle.std.specs.Prelude.{slice_get}
 use Rattle.dx_base.specs.Bits.{num, IsVbr}
 use Rattle.dx_base.proofs.VbrLaws.{vbr_takes}

@@ -1,5 +1,5 @@
 -- What a definition of an abbreviation came to.
-use Rattle.std.specs.Prelude.{ℕ, ◌≡◌, ◌+◌, ◌-◌, ◌<◌, ◌≤◌, ◌^◌, List, length, false, Some, Result, Ok, Err}
+use Rattle.std.specs.Prelude.{ℕ, ◌≡◌, ◌+◌, ◌-◌, ◌≤◌, ◌^◌, List, length, false}
 use Rattle.dx_base.specs.Bits.{num, IsVbr}
 use Rattle.bitstream_spelling.specs.Layout.{Abbreviation, AreWritten}
 use Rattle.bitstream_spelling.specs.Spelling.{Place, defined}

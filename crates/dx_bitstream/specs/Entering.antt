@@ -1,5 +1,5 @@
 -- What a block's entry came to.
-use Rattle.std.specs.Prelude.{ℕ, ◌≡◌, ◌+◌, ◌≤◌, Option, Some, None}
+use Rattle.std.specs.Prelude.{ℕ, ◌≡◌, ◌+◌, Option, Some, None}
 use Rattle.dx_base.specs.Bits.{num}
 use Rattle.bitstream_spelling.specs.Spelling.{IsEntry}
 use Rattle.bitstream_values.specs.Entries.{IsSeen}

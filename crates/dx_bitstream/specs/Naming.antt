@@ -1,5 +1,5 @@
 -- A record of BLOCKINFO names a block.
-use Rattle.std.specs.Prelude.{ℕ, ◌≡◌, List, [], ◌∷◌}
+use Rattle.std.specs.Prelude.{ℕ, ◌≡◌, List, ◌∷◌}
 use Rattle.bitstream_spelling.specs.Spelling.{Block, naming}
 use Rattle.dx_bitstream.specs.Places.{IsBlockOf}
 use Rattle.dx_bitstream.specs.declared.info.Info.{Info}

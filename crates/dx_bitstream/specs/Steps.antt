@@ -9,7 +9,6 @@ use Rattle.bitstream_spelling.specs.Spelling.{Place, Lays, next, item, fields as
 use Rattle.bitstream_spelling.specs.Rules.{IsKnown, IsSoundShape, IsInside, HasStatedLength, IsNamed, IsSmall, StandsRight, Within, IsFine, Breaks, IsOpen, IsWhole, PassesEnd}
 use Rattle.bitstream_spelling.specs.declared.item.Item.{Item}
 use Rattle.bitstream_spelling.specs.declared.item.Item.TheVariants.{Record}
-use Rattle.bitstream_spelling.specs.declared.item.Items.{Items}
 use Rattle.bitstream_values.specs.Records.{IsCoded}
 use Rattle.bitstream_values.specs.declared.record.Coded.{Coded}
 use Rattle.bitstream_values.specs.declared.row.Row.TheVariants.{Taken}

@@ -1,6 +1,6 @@
 //! Whole bitstreams, and ones that break a rule or pass a limit. Their bits and places were worked out from the format.
 
-use crate::{Item, read_items};
+use crate::{Item, Items, read_items};
 use dx_base::{Bytes, Fault, List, Rule, Which};
 use std::alloc::Global;
 use std::test::Fail;
@@ -150,7 +150,7 @@ fn fields_are_read_up_to_the_limit(rt: HostRuntime) -> Result<(), Fail> {
         for byte in content {
             assert!(rt; bytes.push(*byte).is_ok());
         }
-        let fault = read_items(rt.alloc(), bytes.as_slice(), 0, bytes.len() as u64).err();
+        let fault = read_whole(rt.alloc(), &bytes).err();
         let limit = Fault::Limit {
             which: Which::Fields,
             bit,
@@ -158,6 +158,35 @@ fn fields_are_read_up_to_the_limit(rt: HostRuntime) -> Result<(), Fail> {
         assert_eq!(rt; fault, Some(limit));
     }
     Ok(())
+}
+
+/// What all of the bytes spell; there are at most 2^32.
+fn read_whole(alloc: Global, bytes: &Bytes) -> Result<Items, Fault> {
+    let to = bytes.len() as u64;
+    if to > 1 << 32 {
+        return Err(Fault::OutOfMemory);
+    }
+    read_items(alloc, bytes.as_slice(), 0, to)
+}
+
+/// Bytes that are written as two hexadecimal digits each.
+fn bytes_of(alloc: Global, hex: &str) -> Result<Bytes, u8> {
+    let mut bytes: Bytes = List::new(alloc);
+    let mut high = None;
+    for digit in hex.bytes() {
+        let value = match digit {
+            b'0'..=b'9' => digit - b'0',
+            _ => digit.wrapping_sub(b'a').wrapping_add(10),
+        };
+        match high {
+            None => high = Some(value),
+            Some(first) => {
+                bytes.push(value.wrapping_add(16u8.wrapping_mul(first)))?;
+                high = None;
+            }
+        }
+    }
+    Ok(bytes)
 }
 
 /// The bytes of a module block that defines the literal 1 as abbreviation 4 and has 2^22 records by it, of three bits each; with `last` 9 it has one more.
@@ -184,12 +213,10 @@ fn with_records(alloc: Global, last: u8) -> Result<Bytes, u8> {
 fn records_are_read_up_to_the_limit(rt: HostRuntime) -> Result<(), Fail> {
     let within = with_records(rt.alloc(), 1).ok().ok_or("no memory")?;
     assert_eq!(rt; within.len(), 1_572_880);
-    let items = read_items(rt.alloc(), within.as_slice(), 0, 1_572_880)
-        .ok()
-        .ok_or("refused")?;
+    let items = read_whole(rt.alloc(), &within).ok().ok_or("refused")?;
     assert_eq!(rt; items.list.len(), 4_194_306);
     let past = with_records(rt.alloc(), 9).ok().ok_or("no memory")?;
-    let fault = read_items(rt.alloc(), past.as_slice(), 0, past.len() as u64).err();
+    let fault = read_whole(rt.alloc(), &past).err();
     let limit = Fault::Limit {
         which: Which::Records,
         bit: 12_583_025,
@@ -202,7 +229,7 @@ fn records_are_read_up_to_the_limit(rt: HostRuntime) -> Result<(), Fail> {
 #[derive(Drop)]
 struct Whole {
     name: &'static str,
-    bytes: &'static [u8],
+    hex: &'static str,
     items: &'static [Item],
     fields: &'static [u64],
 }
@@ -212,9 +239,7 @@ fn reads_whole_bitstreams(rt: HostRuntime) -> Result<(), Fail> {
     let cases = [
         Whole {
             name: "one record of one field",
-            bytes: &[
-                0x42, 0x43, 0xC0, 0xDE, 0x21, 0x0C, 0, 0, 0x01, 0, 0, 0, 0x0B, 0x82, 0, 0,
-            ],
+            hex: "4243c0de210c0000010000000b820000",
             items: &[
                 Item::Enter {
                     id: 8,
@@ -233,10 +258,7 @@ fn reads_whole_bitstreams(rt: HostRuntime) -> Result<(), Fail> {
         },
         Whole {
             name: "a field of 2^64 - 1",
-            bytes: &[
-                0x42, 0x43, 0xC0, 0xDE, 0x21, 0x0C, 0, 0, 0x03, 0, 0, 0, 0x0B, 0x82, 0xFF, 0xFF,
-                0xFF, 0xFF, 0xFF, 0xFF, 0xFF, 0xFF, 0xFF, 0x07,
-            ],
+            hex: "4243c0de210c0000030000000b82ffffffffffffffffff07",
             items: &[
                 Item::Enter {
                     id: 8,
@@ -255,10 +277,7 @@ fn reads_whole_bitstreams(rt: HostRuntime) -> Result<(), Fail> {
         },
         Whole {
             name: "a field of 1 in three chunks",
-            bytes: &[
-                0x42, 0x43, 0xC0, 0xDE, 0x21, 0x0C, 0, 0, 0x02, 0, 0, 0, 0x0B, 0x82, 0x10, 0x04, 0,
-                0, 0, 0,
-            ],
+            hex: "4243c0de210c0000020000000b82100400000000",
             items: &[
                 Item::Enter {
                     id: 8,
@@ -277,10 +296,7 @@ fn reads_whole_bitstreams(rt: HostRuntime) -> Result<(), Fail> {
         },
         Whole {
             name: "fields of no bits",
-            bytes: &[
-                0x42, 0x43, 0xC0, 0xDE, 0x21, 0x0C, 0, 0, 0x03, 0, 0, 0, 0x2A, 0x0B, 0x04, 0x10,
-                0x90, 0x41, 0x84, 0xCE, 0, 0, 0, 0,
-            ],
+            hex: "4243c0de210c0000030000002a0b0410904184ce00000000",
             items: &[
                 Item::Enter {
                     id: 8,
@@ -299,10 +315,7 @@ fn reads_whole_bitstreams(rt: HostRuntime) -> Result<(), Fail> {
         },
         Whole {
             name: "an empty array and one of two",
-            bytes: &[
-                0x42, 0x43, 0xC0, 0xDE, 0x21, 0x0C, 0, 0, 0x02, 0, 0, 0, 0x1A, 0x05, 0x4C, 0x08,
-                0x01, 0x0A, 0x87, 0,
-            ],
+            hex: "4243c0de210c0000020000001a054c08010a8700",
             items: &[
                 Item::Enter {
                     id: 8,
@@ -327,10 +340,7 @@ fn reads_whole_bitstreams(rt: HostRuntime) -> Result<(), Fail> {
         },
         Whole {
             name: "a blob of no bytes and one of five",
-            bytes: &[
-                0x42, 0x43, 0xC0, 0xDE, 0x21, 0x0C, 0, 0, 0x05, 0, 0, 0, 0x12, 0x22, 0x94, 0x01,
-                0xBC, 0, 0, 0, 0x68, 0x65, 0x6C, 0x6C, 0x6F, 0, 0, 0, 0, 0, 0, 0,
-            ],
+            hex: "4243c0de210c00000500000012229401bc00000068656c6c6f00000000000000",
             items: &[
                 Item::Enter {
                     id: 8,
@@ -355,10 +365,7 @@ fn reads_whole_bitstreams(rt: HostRuntime) -> Result<(), Fail> {
         },
         Whole {
             name: "characters",
-            bytes: &[
-                0x42, 0x43, 0xC0, 0xDE, 0x21, 0x0C, 0, 0, 0x02, 0, 0, 0, 0x1A, 0x68, 0x48, 0x80,
-                0x98, 0x7B, 0xFF, 0x07,
-            ],
+            hex: "4243c0de210c0000020000001a684880987bff07",
             items: &[
                 Item::Enter {
                     id: 8,
@@ -377,12 +384,7 @@ fn reads_whole_bitstreams(rt: HostRuntime) -> Result<(), Fail> {
         },
         Whole {
             name: "abbreviations of BLOCKINFO stand before a block's own",
-            bytes: &[
-                0x42, 0x43, 0xC0, 0xDE, 0x21, 0x0C, 0, 0, 0x0D, 0, 0, 0, 0x01, 0x20, 0, 0, 0x04, 0,
-                0, 0, 0x13, 0x04, 0x91, 0x84, 0x07, 0x13, 0x04, 0x8B, 0x84, 0x08, 0x93, 0x08, 0xD1,
-                0, 0, 0, 0x89, 0x18, 0, 0, 0x01, 0, 0, 0, 0x0A, 0x13, 0x58, 0, 0x59, 0x18, 0, 0,
-                0x01, 0, 0, 0, 0x04, 0, 0, 0, 0, 0, 0, 0,
-            ],
+            hex: "4243c0de210c00000d0000000120000004000000130491840713048b84089308d100000089180000010000000a13580059180000010000000400000000000000",
             items: &[
                 Item::Enter {
                     id: 8,
@@ -449,12 +451,7 @@ fn reads_whole_bitstreams(rt: HostRuntime) -> Result<(), Fail> {
         },
         Whole {
             name: "BLOCKINFO at the top gives to the module block and to later BLOCKINFO",
-            bytes: &[
-                0x42, 0x43, 0xC0, 0xDE, 0x01, 0x0C, 0, 0, 0x03, 0, 0, 0, 0x0B, 0x02, 0x44, 0xA1,
-                0xC1, 0x82, 0, 0x90, 0x18, 0x90, 0x01, 0, 0x21, 0x0C, 0, 0, 0x07, 0, 0, 0, 0x0C,
-                0xC0, 0, 0, 0x01, 0, 0, 0, 0x54, 0x38, 0, 0, 0x61, 0x20, 0, 0, 0x01, 0, 0, 0, 0x04,
-                0, 0, 0, 0, 0, 0, 0,
-            ],
+            hex: "4243c0de010c0000030000000b0244a1c182009018900100210c0000070000000cc00000010000005438000061200000010000000400000000000000",
             items: &[
                 Item::Enter {
                     id: 0,
@@ -515,11 +512,7 @@ fn reads_whole_bitstreams(rt: HostRuntime) -> Result<(), Fail> {
         },
         Whole {
             name: "abbreviations for blocks that are not read",
-            bytes: &[
-                0x42, 0x43, 0xC0, 0xDE, 0x21, 0x0C, 0, 0, 0x08, 0, 0, 0, 0x01, 0x18, 0, 0, 0x05, 0,
-                0, 0, 0x0B, 0x82, 0x44, 0xA1, 0xC1, 0x82, 0xE0, 0xFF, 0xFF, 0xFF, 0xFF, 0xFF, 0xFF,
-                0xFF, 0xFF, 0xFF, 0x51, 0x68, 0, 0, 0x13, 0, 0, 0,
-            ],
+            hex: "4243c0de210c00000800000001180000050000000b8244a1c182e0ffffffffffffffffff5168000013000000",
             items: &[
                 Item::Enter {
                     id: 8,
@@ -556,13 +549,7 @@ fn reads_whole_bitstreams(rt: HostRuntime) -> Result<(), Fail> {
         },
         Whole {
             name: "blocks that are passed over",
-            bytes: &[
-                0x42, 0x43, 0xC0, 0xDE, 0x21, 0x0C, 0, 0, 0x12, 0, 0, 0, 0x49, 0x18, 0, 0, 0x02, 0,
-                0, 0, 0xFF, 0xFF, 0xFF, 0xFF, 0xFF, 0xFF, 0xFF, 0xFF, 0x61, 0x20, 0, 0, 0x0B, 0, 0,
-                0, 0x11, 0x31, 0, 0, 0x01, 0, 0, 0, 0xFF, 0xFF, 0xFF, 0xFF, 0xB1, 0x50, 0, 0, 0x01,
-                0, 0, 0, 0, 0, 0, 0, 0xF1, 0xFF, 0xFF, 0xFF, 0xFF, 0xFF, 0xFF, 0xFF, 0xFF, 0x1F,
-                0x30, 0, 0, 0, 0, 0, 0, 0, 0, 0, 0, 0, 0, 0,
-            ],
+            hex: "4243c0de210c0000120000004918000002000000ffffffffffffffff612000000b0000001131000001000000ffffffffb15000000100000000000000f1ffffffffffffffff1f3000000000000000000000000000",
             items: &[
                 Item::Enter {
                     id: 8,
@@ -602,10 +589,7 @@ fn reads_whole_bitstreams(rt: HostRuntime) -> Result<(), Fail> {
         },
         Whole {
             name: "a block before the module, and an id of 32 bits",
-            bytes: &[
-                0x42, 0x43, 0xC0, 0xDE, 0x25, 0x0C, 0, 0, 0x01, 0, 0, 0, 0xFF, 0xFF, 0xFF, 0xFF,
-                0x21, 0x20, 0x01, 0, 0x03, 0, 0, 0, 0x03, 0, 0, 0, 0x03, 0, 0, 0, 0, 0, 0, 0,
-            ],
+            hex: "4243c0de250c000001000000ffffffff2120010003000000030000000300000000000000",
             items: &[
                 Item::Skip {
                     id: 9,
@@ -629,10 +613,7 @@ fn reads_whole_bitstreams(rt: HostRuntime) -> Result<(), Fail> {
         },
         Whole {
             name: "nothing after the first module block is read",
-            bytes: &[
-                0x42, 0x43, 0xC0, 0xDE, 0x21, 0x0C, 0, 0, 0x01, 0, 0, 0, 0, 0, 0, 0, 0xFF, 0xFF,
-                0xFF,
-            ],
+            hex: "4243c0de210c00000100000000000000ffffff",
             items: &[
                 Item::Enter {
                     id: 8,
@@ -645,10 +626,7 @@ fn reads_whole_bitstreams(rt: HostRuntime) -> Result<(), Fail> {
         },
         Whole {
             name: "blocks with nothing in them",
-            bytes: &[
-                0x42, 0x43, 0xC0, 0xDE, 0x01, 0x08, 0, 0, 0x01, 0, 0, 0, 0, 0, 0, 0, 0x21, 0x08, 0,
-                0, 0x01, 0, 0, 0, 0, 0, 0, 0,
-            ],
+            hex: "4243c0de010800000100000000000000210800000100000000000000",
             items: &[
                 Item::Enter {
                     id: 0,
@@ -667,11 +645,7 @@ fn reads_whole_bitstreams(rt: HostRuntime) -> Result<(), Fail> {
         },
         Whole {
             name: "the widest operands",
-            bytes: &[
-                0x42, 0x43, 0xC0, 0xDE, 0x21, 0x0C, 0, 0, 0x06, 0, 0, 0, 0x22, 0x03, 0x04, 0x12,
-                0x12, 0x04, 0x05, 0xFF, 0xFF, 0xFF, 0xFF, 0xFF, 0xFF, 0xFF, 0xFF, 0x37, 0x03, 0, 0,
-                0, 0, 0, 0, 0,
-            ],
+            hex: "4243c0de210c00000600000022030412120405ffffffffffffffff370300000000000000",
             items: &[
                 Item::Enter {
                     id: 8,
@@ -690,562 +664,315 @@ fn reads_whole_bitstreams(rt: HostRuntime) -> Result<(), Fail> {
         },
     ];
     for case in &cases {
-        let items = read_items(rt.alloc(), case.bytes, 0, case.bytes.len() as u64)
-            .ok()
-            .ok_or(case.name)?;
+        let bytes = bytes_of(rt.alloc(), case.hex).ok().ok_or("no memory")?;
+        let items = read_whole(rt.alloc(), &bytes).ok().ok_or(case.name)?;
         assert_eq!(rt; items.list.as_slice(), case.items, "{}", case.name);
         assert_eq!(rt; items.fields.as_slice(), case.fields, "{}", case.name);
     }
     Ok(())
 }
 
-/// A bitstream with its first broken rule.
-#[derive(Drop)]
-struct Broken {
-    name: &'static str,
-    bytes: &'static [u8],
-    rule: u8,
-    bit: u64,
-}
-
 #[test]
 fn refuses_at_the_first_bit(rt: HostRuntime) -> Result<(), Fail> {
-    let cases = [
-        Broken {
-            name: "another magic",
-            bytes: &[
-                0x43, 0x43, 0xC0, 0xDE, 0x21, 0x0C, 0, 0, 0x01, 0, 0, 0, 0x0B, 0x82, 0, 0,
-            ],
-            rule: 1,
-            bit: 0,
-        },
-        Broken {
-            name: "a record at the top",
-            bytes: &[0x42, 0x43, 0xC0, 0xDE, 0x07, 0, 0, 0],
-            rule: 8,
-            bit: 32,
-        },
-        Broken {
-            name: "an end at the top",
-            bytes: &[0x42, 0x43, 0xC0, 0xDE, 0, 0, 0, 0],
-            rule: 8,
-            bit: 32,
-        },
-        Broken {
-            name: "an end at the top that passes the end",
-            bytes: &[0x42, 0x43, 0xC0, 0xDE, 0],
-            rule: 2,
-            bit: 32,
-        },
-        Broken {
-            name: "a definition at the top",
-            bytes: &[0x42, 0x43, 0xC0, 0xDE, 0x86, 0x01, 0, 0],
-            rule: 8,
-            bit: 32,
-        },
-        Broken {
-            name: "a faulty definition at the top",
-            bytes: &[0x42, 0x43, 0xC0, 0xDE, 0x06, 0x03, 0, 0],
-            rule: 4,
-            bit: 32,
-        },
-        Broken {
-            name: "a wide definition at the top",
-            bytes: &[
-                0x42, 0x43, 0xC0, 0xDE, 0x86, 0x80, 0x80, 0x80, 0x80, 0x80, 0x80, 0x80, 0x80, 0x80,
-                0x02, 0,
-            ],
-            rule: 7,
-            bit: 32,
-        },
-        Broken {
-            name: "a wide record at the top",
-            bytes: &[
-                0x42, 0x43, 0xC0, 0xDE, 0x83, 0x20, 0x08, 0x82, 0x20, 0x08, 0x82, 0x20, 0x08, 0x42,
-                0, 0,
-            ],
-            rule: 7,
-            bit: 32,
-        },
-        Broken {
-            name: "a record at the top that passes the end",
-            bytes: &[0x42, 0x43, 0xC0, 0xDE, 0x07, 0x09, 0, 0],
-            rule: 2,
-            bit: 32,
-        },
-        Broken {
-            name: "nothing behind the magic",
-            bytes: &[0x42, 0x43, 0xC0, 0xDE],
-            rule: 2,
-            bit: 32,
-        },
-        Broken {
-            name: "only a BLOCKINFO block",
-            bytes: &[
-                0x42, 0x43, 0xC0, 0xDE, 0x01, 0x0C, 0, 0, 0x01, 0, 0, 0, 0, 0, 0, 0,
-            ],
-            rule: 2,
-            bit: 128,
-        },
-        Broken {
-            name: "an id of 0 bits",
-            bytes: &[
-                0x42, 0x43, 0xC0, 0xDE, 0x21, 0, 0, 0, 0, 0, 0, 0, 0, 0, 0, 0,
-            ],
-            rule: 8,
-            bit: 32,
-        },
-        Broken {
-            name: "an id of 1 bits",
-            bytes: &[
-                0x42, 0x43, 0xC0, 0xDE, 0x21, 0x04, 0, 0, 0, 0, 0, 0, 0, 0, 0, 0,
-            ],
-            rule: 8,
-            bit: 32,
-        },
-        Broken {
-            name: "an id of 33 bits",
-            bytes: &[
-                0x42, 0x43, 0xC0, 0xDE, 0x21, 0x24, 0x01, 0, 0, 0, 0, 0, 0, 0, 0, 0,
-            ],
-            rule: 8,
-            bit: 32,
-        },
-        Broken {
-            name: "an id of 300 bits",
-            bytes: &[
-                0x42, 0x43, 0xC0, 0xDE, 0x21, 0x70, 0x13, 0, 0, 0, 0, 0, 0, 0, 0, 0,
-            ],
-            rule: 8,
-            bit: 32,
-        },
-        Broken {
-            name: "a width of 2^64",
-            bytes: &[
-                0x42, 0x43, 0xC0, 0xDE, 0x21, 0x20, 0x22, 0x22, 0x22, 0x22, 0x22, 0x22, 0x22, 0x22,
-                0x22, 0xA2, 0, 0, 0, 0, 0, 0, 0, 0, 0, 0, 0, 0,
-            ],
-            rule: 7,
-            bit: 32,
-        },
-        Broken {
-            name: "an id of 2^64 whose content passes the end",
-            bytes: &[
-                0x42, 0x43, 0xC0, 0xDE, 0x01, 0x02, 0x02, 0x02, 0x02, 0x02, 0x02, 0x02, 0x02, 0x0A,
-                0x08, 0, 0x09, 0, 0, 0,
-            ],
-            rule: 2,
-            bit: 32,
-        },
-        Broken {
-            name: "an id of 2^64 whose content lies within the end",
-            bytes: &[
-                0x42, 0x43, 0xC0, 0xDE, 0x01, 0x02, 0x02, 0x02, 0x02, 0x02, 0x02, 0x02, 0x02, 0x0A,
-                0x08, 0, 0, 0, 0, 0,
-            ],
-            rule: 7,
-            bit: 32,
-        },
-        Broken {
-            name: "a skipped block that passes the end by a word",
-            bytes: &[
-                0x42, 0x43, 0xC0, 0xDE, 0x21, 0x0C, 0, 0, 0, 0, 0, 0, 0x49, 0x18, 0, 0, 0x03, 0, 0,
-                0, 0xFF, 0xFF, 0xFF, 0xFF, 0xFF, 0xFF, 0xFF, 0xFF,
-            ],
-            rule: 2,
-            bit: 96,
-        },
-        Broken {
-            name: "a skipped block with a wide width",
-            bytes: &[
-                0x42, 0x43, 0xC0, 0xDE, 0x21, 0x0C, 0, 0, 0x07, 0, 0, 0, 0x49, 0x40, 0x44, 0x44,
-                0x44, 0x44, 0x44, 0x44, 0x44, 0x44, 0x44, 0x44, 0x01, 0, 0, 0, 0x01, 0, 0, 0, 0xFF,
-                0xFF, 0xFF, 0xFF, 0, 0, 0, 0,
-            ],
-            rule: 7,
-            bit: 96,
-        },
-        Broken {
-            name: "no abbreviation",
-            bytes: &[
-                0x42, 0x43, 0xC0, 0xDE, 0x21, 0x0C, 0, 0, 0, 0, 0, 0, 0x04, 0, 0, 0,
-            ],
-            rule: 3,
-            bit: 96,
-        },
-        Broken {
-            name: "one number behind the last abbreviation",
-            bytes: &[
-                0x42, 0x43, 0xC0, 0xDE, 0x21, 0x0C, 0, 0, 0, 0, 0, 0, 0x0A, 0x03, 0x58, 0,
-            ],
-            rule: 3,
-            bit: 116,
-        },
-        Broken {
-            name: "an abbreviation of the block around",
-            bytes: &[
-                0x42, 0x43, 0xC0, 0xDE, 0x21, 0x0C, 0, 0, 0, 0, 0, 0, 0x0A, 0x03, 0x12, 0x31, 0, 0,
-                0, 0, 0x04, 0, 0, 0,
-            ],
-            rule: 3,
-            bit: 160,
-        },
-        Broken {
-            name: "an abbreviation of the block before",
-            bytes: &[
-                0x42, 0x43, 0xC0, 0xDE, 0x21, 0x0C, 0, 0, 0, 0, 0, 0, 0x89, 0x18, 0, 0, 0x01, 0, 0,
-                0, 0x0A, 0x03, 0, 0, 0x89, 0x18, 0, 0, 0, 0, 0, 0, 0x04, 0, 0, 0,
-            ],
-            rule: 3,
-            bit: 256,
-        },
-        Broken {
-            name: "an abbreviation given to the block after its entry",
-            bytes: &[
-                0x42, 0x43, 0xC0, 0xDE, 0x21, 0x0C, 0, 0, 0, 0, 0, 0, 0x01, 0x18, 0, 0, 0x02, 0, 0,
-                0, 0x0B, 0x02, 0x44, 0x61, 0, 0, 0, 0, 0x04, 0, 0, 0,
-            ],
-            rule: 3,
-            bit: 224,
-        },
-        Broken {
-            name: "an abbreviation given to the BLOCKINFO block itself",
-            bytes: &[
-                0x42, 0x43, 0xC0, 0xDE, 0x21, 0x0C, 0, 0, 0, 0, 0, 0, 0x01, 0x18, 0, 0, 0, 0, 0, 0,
-                0x0B, 0x02, 0x40, 0x61, 0, 0x01, 0, 0,
-            ],
-            rule: 3,
-            bit: 198,
-        },
-        Broken {
-            name: "no operand",
-            bytes: &[
-                0x42, 0x43, 0xC0, 0xDE, 0x21, 0x0C, 0, 0, 0x01, 0, 0, 0, 0x02, 0, 0, 0,
-            ],
-            rule: 4,
-            bit: 96,
-        },
-        Broken {
-            name: "Array first",
-            bytes: &[
-                0x42, 0x43, 0xC0, 0xDE, 0x21, 0x0C, 0, 0, 0x01, 0, 0, 0, 0x12, 0x26, 0x01, 0,
-            ],
-            rule: 4,
-            bit: 96,
-        },
-        Broken {
-            name: "Blob first",
-            bytes: &[
-                0x42, 0x43, 0xC0, 0xDE, 0x21, 0x0C, 0, 0, 0x01, 0, 0, 0, 0x0A, 0x0A, 0, 0,
-            ],
-            rule: 4,
-            bit: 96,
-        },
-        Broken {
-            name: "Array last",
-            bytes: &[
-                0x42, 0x43, 0xC0, 0xDE, 0x21, 0x0C, 0, 0, 0x01, 0, 0, 0, 0x12, 0x03, 0x0C, 0,
-            ],
-            rule: 4,
-            bit: 96,
-        },
-        Broken {
-            name: "Array before two operands",
-            bytes: &[
-                0x42, 0x43, 0xC0, 0xDE, 0x21, 0x0C, 0, 0, 0x02, 0, 0, 0, 0x22, 0x03, 0x4C, 0x82,
-                0x04, 0, 0, 0,
-            ],
-            rule: 4,
-            bit: 96,
-        },
-        Broken {
-            name: "an array of literals",
-            bytes: &[
-                0x42, 0x43, 0xC0, 0xDE, 0x21, 0x0C, 0, 0, 0x02, 0, 0, 0, 0x1A, 0x03, 0x6C, 0, 0, 0,
-                0, 0,
-            ],
-            rule: 4,
-            bit: 96,
-        },
-        Broken {
-            name: "an array of arrays",
-            bytes: &[
-                0x42, 0x43, 0xC0, 0xDE, 0x21, 0x0C, 0, 0, 0x01, 0, 0, 0, 0x1A, 0x03, 0xCC, 0,
-            ],
-            rule: 4,
-            bit: 96,
-        },
-        Broken {
-            name: "an array of blobs",
-            bytes: &[
-                0x42, 0x43, 0xC0, 0xDE, 0x21, 0x0C, 0, 0, 0x01, 0, 0, 0, 0x1A, 0x03, 0x4C, 0x01,
-            ],
-            rule: 4,
-            bit: 96,
-        },
-        Broken {
-            name: "Blob not last",
-            bytes: &[
-                0x42, 0x43, 0xC0, 0xDE, 0x21, 0x0C, 0, 0, 0x02, 0, 0, 0, 0x1A, 0x03, 0x54, 0x02, 0,
-                0, 0, 0,
-            ],
-            rule: 4,
-            bit: 96,
-        },
-        Broken {
-            name: "encoding 0",
-            bytes: &[
-                0x42, 0x43, 0xC0, 0xDE, 0x21, 0x0C, 0, 0, 0x01, 0, 0, 0, 0x12, 0x03, 0, 0,
-            ],
-            rule: 4,
-            bit: 96,
-        },
-        Broken {
-            name: "encoding 6",
-            bytes: &[
-                0x42, 0x43, 0xC0, 0xDE, 0x21, 0x0C, 0, 0, 0x01, 0, 0, 0, 0x0A, 0x0C, 0, 0,
-            ],
-            rule: 4,
-            bit: 96,
-        },
-        Broken {
-            name: "encoding 7",
-            bytes: &[
-                0x42, 0x43, 0xC0, 0xDE, 0x21, 0x0C, 0, 0, 0x01, 0, 0, 0, 0x1A, 0x03, 0xCC, 0x01,
-            ],
-            rule: 4,
-            bit: 96,
-        },
-        Broken {
-            name: "Fixed of 65 bits",
-            bytes: &[
-                0x42, 0x43, 0xC0, 0xDE, 0x21, 0x0C, 0, 0, 0x01, 0, 0, 0, 0x0A, 0x12, 0x09, 0,
-            ],
-            rule: 4,
-            bit: 96,
-        },
-        Broken {
-            name: "VBR of one bit",
-            bytes: &[
-                0x42, 0x43, 0xC0, 0xDE, 0x21, 0x0C, 0, 0, 0x01, 0, 0, 0, 0x12, 0x03, 0x28, 0,
-            ],
-            rule: 4,
-            bit: 96,
-        },
-        Broken {
-            name: "VBR of 33 bits",
-            bytes: &[
-                0x42, 0x43, 0xC0, 0xDE, 0x21, 0x0C, 0, 0, 0x02, 0, 0, 0, 0x1A, 0x03, 0x8C, 0xA2, 0,
-                0, 0, 0,
-            ],
-            rule: 4,
-            bit: 96,
-        },
-        Broken {
-            name: "a Fixed width of 2^64",
-            bytes: &[
-                0x42, 0x43, 0xC0, 0xDE, 0x21, 0x0C, 0, 0, 0x04, 0, 0, 0, 0x12, 0x02, 0x21, 0x84,
-                0x10, 0x42, 0x08, 0x21, 0x84, 0x10, 0x42, 0x18, 0x06, 0, 0, 0,
-            ],
-            rule: 4,
-            bit: 96,
-        },
-        Broken {
-            name: "a literal of 2^64",
-            bytes: &[
-                0x42, 0x43, 0xC0, 0xDE, 0x21, 0x0C, 0, 0, 0x03, 0, 0, 0, 0x0A, 0x01, 0x01, 0x01,
-                0x01, 0x01, 0x01, 0x01, 0x01, 0x01, 0x05, 0,
-            ],
-            rule: 7,
-            bit: 96,
-        },
-        Broken {
-            name: "a faulty definition that passes the end",
-            bytes: &[
-                0x42, 0x43, 0xC0, 0xDE, 0x21, 0x0C, 0, 0, 0, 0, 0, 0, 0x12, 0x26,
-            ],
-            rule: 2,
-            bit: 96,
-        },
-        Broken {
-            name: "a stated length of one word too many",
-            bytes: &[
-                0x42, 0x43, 0xC0, 0xDE, 0x21, 0x0C, 0, 0, 0x02, 0, 0, 0, 0x0B, 0x82, 0, 0,
-            ],
-            rule: 5,
-            bit: 32,
-        },
-        Broken {
-            name: "a stated length of one word too few",
-            bytes: &[
-                0x42, 0x43, 0xC0, 0xDE, 0x21, 0x0C, 0, 0, 0, 0, 0, 0, 0x0B, 0x82, 0, 0,
-            ],
-            rule: 5,
-            bit: 32,
-        },
-        Broken {
-            name: "a nested block with a stated length of one word too many",
-            bytes: &[
-                0x42, 0x43, 0xC0, 0xDE, 0x21, 0x0C, 0, 0, 0x04, 0, 0, 0, 0x89, 0x18, 0, 0, 0x02, 0,
-                0, 0, 0x0B, 0x02, 0, 0, 0, 0, 0, 0,
-            ],
-            rule: 5,
-            bit: 96,
-        },
-        Broken {
-            name: "a module block longer than its nested block",
-            bytes: &[
-                0x42, 0x43, 0xC0, 0xDE, 0x21, 0x0C, 0, 0, 0x09, 0, 0, 0, 0x89, 0x18, 0, 0, 0x01, 0,
-                0, 0, 0x0B, 0x02, 0, 0, 0, 0, 0, 0,
-            ],
-            rule: 5,
-            bit: 32,
-        },
-        Broken {
-            name: "an unknown abbreviation before a wrong length",
-            bytes: &[
-                0x42, 0x43, 0xC0, 0xDE, 0x21, 0x0C, 0, 0, 0x09, 0, 0, 0, 0x89, 0x18, 0, 0, 0x01, 0,
-                0, 0, 0x0B, 0x02, 0, 0, 0x04, 0, 0, 0,
-            ],
-            rule: 3,
-            bit: 192,
-        },
-        Broken {
-            name: "a definition before the first SETBID",
-            bytes: &[
-                0x42, 0x43, 0xC0, 0xDE, 0x21, 0x0C, 0, 0, 0x04, 0, 0, 0, 0x01, 0x18, 0, 0, 0x01, 0,
-                0, 0, 0x0A, 0x03, 0, 0, 0, 0, 0, 0,
-            ],
-            rule: 6,
-            bit: 160,
-        },
-        Broken {
-            name: "a SETBID of the BLOCKINFO block before",
-            bytes: &[
-                0x42, 0x43, 0xC0, 0xDE, 0x21, 0x0C, 0, 0, 0x08, 0, 0, 0, 0x01, 0x18, 0, 0, 0x02, 0,
-                0, 0, 0x0B, 0x82, 0x45, 0x61, 0, 0, 0, 0, 0x01, 0x18, 0, 0, 0x01, 0, 0, 0, 0x0A,
-                0x03, 0, 0, 0, 0, 0, 0,
-            ],
-            rule: 6,
-            bit: 288,
-        },
-        Broken {
-            name: "a SETBID without a field",
-            bytes: &[
-                0x42, 0x43, 0xC0, 0xDE, 0x21, 0x0C, 0, 0, 0x04, 0, 0, 0, 0x01, 0x18, 0, 0, 0x01, 0,
-                0, 0, 0x0B, 0, 0, 0, 0, 0, 0, 0,
-            ],
-            rule: 6,
-            bit: 160,
-        },
-        Broken {
-            name: "a SETBID without a field by an abbreviation",
-            bytes: &[
-                0x42, 0x43, 0xC0, 0xDE, 0x21, 0x0C, 0, 0, 0x08, 0, 0, 0, 0x01, 0x18, 0, 0, 0x02, 0,
-                0, 0, 0x0B, 0x02, 0x40, 0x61, 0, 0, 0, 0, 0x01, 0x18, 0, 0, 0x01, 0, 0, 0, 0x04, 0,
-                0, 0, 0, 0, 0, 0,
-            ],
-            rule: 6,
-            bit: 288,
-        },
-        Broken {
-            name: "a wide definition before the first SETBID",
-            bytes: &[
-                0x42, 0x43, 0xC0, 0xDE, 0x21, 0x0C, 0, 0, 0x06, 0, 0, 0, 0x01, 0x18, 0, 0, 0x03, 0,
-                0, 0, 0x0A, 0x01, 0x01, 0x01, 0x01, 0x01, 0x01, 0x01, 0x01, 0x01, 0x05, 0, 0, 0, 0,
-                0,
-            ],
-            rule: 6,
-            bit: 160,
-        },
-        Broken {
-            name: "a faulty definition before the first SETBID",
-            bytes: &[
-                0x42, 0x43, 0xC0, 0xDE, 0x21, 0x0C, 0, 0, 0x04, 0, 0, 0, 0x01, 0x18, 0, 0, 0x01, 0,
-                0, 0, 0x0A, 0x0A, 0, 0, 0, 0, 0, 0,
-            ],
-            rule: 4,
-            bit: 160,
-        },
-        Broken {
-            name: "a field of 2^64",
-            bytes: &[
-                0x42, 0x43, 0xC0, 0xDE, 0x21, 0x0C, 0, 0, 0x03, 0, 0, 0, 0x0B, 0x02, 0x10, 0x04,
-                0x41, 0x10, 0x04, 0x41, 0x10, 0x04, 0x41, 0x08,
-            ],
-            rule: 7,
-            bit: 96,
-        },
-        Broken {
-            name: "a code of 2^64",
-            bytes: &[
-                0x42, 0x43, 0xC0, 0xDE, 0x21, 0x0C, 0, 0, 0x03, 0, 0, 0, 0x03, 0x41, 0x10, 0x04,
-                0x41, 0x10, 0x04, 0x41, 0x10, 0x84, 0x82, 0,
-            ],
-            rule: 7,
-            bit: 96,
-        },
-        Broken {
-            name: "a count of 2^64",
-            bytes: &[
-                0x42, 0x43, 0xC0, 0xDE, 0x21, 0x0C, 0, 0, 0, 0, 0, 0, 0x0B, 0x40, 0x10, 0x04, 0x41,
-                0x10, 0x04, 0x41, 0x10, 0x04, 0xA1, 0,
-            ],
-            rule: 2,
-            bit: 96,
-        },
-        Broken {
-            name: "a field of 2^64 before one that passes the end",
-            bytes: &[
-                0x42, 0x43, 0xC0, 0xDE, 0x21, 0x0C, 0, 0, 0, 0, 0, 0, 0x0B, 0x04, 0x10, 0x04, 0x41,
-                0x10, 0x04, 0x41, 0x10, 0x04, 0x41, 0x08,
-            ],
-            rule: 2,
-            bit: 96,
-        },
-        Broken {
-            name: "2^64 elements of no bits",
-            bytes: &[
-                0x42, 0x43, 0xC0, 0xDE, 0x21, 0x0C, 0, 0, 0x04, 0, 0, 0, 0x1A, 0x03, 0x4C, 0, 0x41,
-                0x10, 0x04, 0x41, 0x10, 0x04, 0x41, 0x10, 0x04, 0x21, 0, 0,
-            ],
-            rule: 7,
-            bit: 126,
-        },
-        Broken {
-            name: "a VBR field of 2^64",
-            bytes: &[
-                0x42, 0x43, 0xC0, 0xDE, 0x21, 0x0C, 0, 0, 0x04, 0, 0, 0, 0x12, 0x03, 0xC8, 0x10,
-                0x04, 0x41, 0x10, 0x04, 0x41, 0x10, 0x04, 0x41, 0x10, 0x02, 0, 0,
-            ],
-            rule: 7,
-            bit: 122,
-        },
-        Broken {
-            name: "a blob that passes the end",
-            bytes: &[
-                0x42, 0x43, 0xC0, 0xDE, 0x21, 0x0C, 0, 0, 0, 0, 0, 0, 0x12, 0x03, 0x94, 0x05, 0, 0,
-                0, 0,
-            ],
-            rule: 2,
-            bit: 117,
-        },
-        Broken {
-            name: "an end whose alignment passes the end",
-            bytes: &[
-                0x42, 0x43, 0xC0, 0xDE, 0x21, 0x0C, 0, 0, 0, 0, 0, 0, 0x0B, 0x82, 0,
-            ],
-            rule: 2,
-            bit: 117,
-        },
+    // a name, the bytes, the first broken rule and its bit
+    let cases: [(&str, &str, u8, u64); 63] = [
+        ("another magic", "4343c0de210c0000010000000b820000", 1, 0),
+        ("a record at the top", "4243c0de07000000", 8, 32),
+        ("an end at the top", "4243c0de00000000", 8, 32),
+        ("an end at the top that passes the end", "4243c0de00", 2, 32),
+        ("a definition at the top", "4243c0de86010000", 8, 32),
+        ("a faulty definition at the top", "4243c0de06030000", 4, 32),
+        (
+            "a wide definition at the top",
+            "4243c0de868080808080808080800200",
+            7,
+            32,
+        ),
+        (
+            "a wide record at the top",
+            "4243c0de832008822008822008420000",
+            7,
+            32,
+        ),
+        (
+            "a record at the top that passes the end",
+            "4243c0de07090000",
+            2,
+            32,
+        ),
+        ("nothing behind the magic", "4243c0de", 2, 32),
+        (
+            "only a BLOCKINFO block",
+            "4243c0de010c00000100000000000000",
+            2,
+            128,
+        ),
+        ("an id of 0 bits", "4243c0de210000000000000000000000", 8, 32),
+        ("an id of 1 bits", "4243c0de210400000000000000000000", 8, 32),
+        (
+            "an id of 33 bits",
+            "4243c0de212401000000000000000000",
+            8,
+            32,
+        ),
+        (
+            "an id of 300 bits",
+            "4243c0de217013000000000000000000",
+            8,
+            32,
+        ),
+        (
+            "a width of 2^64",
+            "4243c0de2120222222222222222222a2000000000000000000000000",
+            7,
+            32,
+        ),
+        (
+            "an id of 2^64 whose content passes the end",
+            "4243c0de0102020202020202020a080009000000",
+            2,
+            32,
+        ),
+        (
+            "an id of 2^64 whose content lies within the end",
+            "4243c0de0102020202020202020a080000000000",
+            7,
+            32,
+        ),
+        (
+            "a skipped block that passes the end by a word",
+            "4243c0de210c0000000000004918000003000000ffffffffffffffff",
+            2,
+            96,
+        ),
+        (
+            "a skipped block with a wide width",
+            "4243c0de210c0000070000004940444444444444444444440100000001000000ffffffff00000000",
+            7,
+            96,
+        ),
+        ("no abbreviation", "4243c0de210c00000000000004000000", 3, 96),
+        (
+            "one number behind the last abbreviation",
+            "4243c0de210c0000000000000a035800",
+            3,
+            116,
+        ),
+        (
+            "an abbreviation of the block around",
+            "4243c0de210c0000000000000a0312310000000004000000",
+            3,
+            160,
+        ),
+        (
+            "an abbreviation of the block before",
+            "4243c0de210c00000000000089180000010000000a030000891800000000000004000000",
+            3,
+            256,
+        ),
+        (
+            "an abbreviation given to the block after its entry",
+            "4243c0de210c00000000000001180000020000000b0244610000000004000000",
+            3,
+            224,
+        ),
+        (
+            "an abbreviation given to the BLOCKINFO block itself",
+            "4243c0de210c00000000000001180000000000000b02406100010000",
+            3,
+            198,
+        ),
+        ("no operand", "4243c0de210c00000100000002000000", 4, 96),
+        ("Array first", "4243c0de210c00000100000012260100", 4, 96),
+        ("Blob first", "4243c0de210c0000010000000a0a0000", 4, 96),
+        ("Array last", "4243c0de210c00000100000012030c00", 4, 96),
+        (
+            "Array before two operands",
+            "4243c0de210c00000200000022034c8204000000",
+            4,
+            96,
+        ),
+        (
+            "an array of literals",
+            "4243c0de210c0000020000001a036c0000000000",
+            4,
+            96,
+        ),
+        (
+            "an array of arrays",
+            "4243c0de210c0000010000001a03cc00",
+            4,
+            96,
+        ),
+        (
+            "an array of blobs",
+            "4243c0de210c0000010000001a034c01",
+            4,
+            96,
+        ),
+        (
+            "Blob not last",
+            "4243c0de210c0000020000001a03540200000000",
+            4,
+            96,
+        ),
+        ("encoding 0", "4243c0de210c00000100000012030000", 4, 96),
+        ("encoding 6", "4243c0de210c0000010000000a0c0000", 4, 96),
+        ("encoding 7", "4243c0de210c0000010000001a03cc01", 4, 96),
+        (
+            "Fixed of 65 bits",
+            "4243c0de210c0000010000000a120900",
+            4,
+            96,
+        ),
+        ("VBR of one bit", "4243c0de210c00000100000012032800", 4, 96),
+        (
+            "VBR of 33 bits",
+            "4243c0de210c0000020000001a038ca200000000",
+            4,
+            96,
+        ),
+        (
+            "a Fixed width of 2^64",
+            "4243c0de210c00000400000012022184104208218410421806000000",
+            4,
+            96,
+        ),
+        (
+            "a literal of 2^64",
+            "4243c0de210c0000030000000a0101010101010101010500",
+            7,
+            96,
+        ),
+        (
+            "a faulty definition that passes the end",
+            "4243c0de210c0000000000001226",
+            2,
+            96,
+        ),
+        (
+            "a stated length of one word too many",
+            "4243c0de210c0000020000000b820000",
+            5,
+            32,
+        ),
+        (
+            "a stated length of one word too few",
+            "4243c0de210c0000000000000b820000",
+            5,
+            32,
+        ),
+        (
+            "a nested block with a stated length of one word too many",
+            "4243c0de210c00000400000089180000020000000b02000000000000",
+            5,
+            96,
+        ),
+        (
+            "a module block longer than its nested block",
+            "4243c0de210c00000900000089180000010000000b02000000000000",
+            5,
+            32,
+        ),
+        (
+            "an unknown abbreviation before a wrong length",
+            "4243c0de210c00000900000089180000010000000b02000004000000",
+            3,
+            192,
+        ),
+        (
+            "a definition before the first SETBID",
+            "4243c0de210c00000400000001180000010000000a03000000000000",
+            6,
+            160,
+        ),
+        (
+            "a SETBID of the BLOCKINFO block before",
+            "4243c0de210c00000800000001180000020000000b8245610000000001180000010000000a03000000000000",
+            6,
+            288,
+        ),
+        (
+            "a SETBID without a field",
+            "4243c0de210c00000400000001180000010000000b00000000000000",
+            6,
+            160,
+        ),
+        (
+            "a SETBID without a field by an abbreviation",
+            "4243c0de210c00000800000001180000020000000b0240610000000001180000010000000400000000000000",
+            6,
+            288,
+        ),
+        (
+            "a wide definition before the first SETBID",
+            "4243c0de210c00000600000001180000030000000a010101010101010101050000000000",
+            6,
+            160,
+        ),
+        (
+            "a faulty definition before the first SETBID",
+            "4243c0de210c00000400000001180000010000000a0a000000000000",
+            4,
+            160,
+        ),
+        (
+            "a field of 2^64",
+            "4243c0de210c0000030000000b0210044110044110044108",
+            7,
+            96,
+        ),
+        (
+            "a code of 2^64",
+            "4243c0de210c000003000000034110044110044110848200",
+            7,
+            96,
+        ),
+        (
+            "a count of 2^64",
+            "4243c0de210c0000000000000b401004411004411004a100",
+            2,
+            96,
+        ),
+        (
+            "a field of 2^64 before one that passes the end",
+            "4243c0de210c0000000000000b0410044110044110044108",
+            2,
+            96,
+        ),
+        (
+            "2^64 elements of no bits",
+            "4243c0de210c0000040000001a034c00411004411004411004210000",
+            7,
+            126,
+        ),
+        (
+            "a VBR field of 2^64",
+            "4243c0de210c0000040000001203c810044110044110044110020000",
+            7,
+            122,
+        ),
+        (
+            "a blob that passes the end",
+            "4243c0de210c0000000000001203940500000000",
+            2,
+            117,
+        ),
+        (
+            "an end whose alignment passes the end",
+            "4243c0de210c0000000000000b8200",
+            2,
+            117,
+        ),
     ];
-    for case in &cases {
-        let fault = read_items(rt.alloc(), case.bytes, 0, case.bytes.len() as u64).err();
+    for (name, hex, rule, bit) in cases {
+        let bytes = bytes_of(rt.alloc(), hex).ok().ok_or("no memory")?;
+        let fault = read_whole(rt.alloc(), &bytes).err();
         let refused = Fault::Refused {
-            rule: Rule::B(case.rule),
-            bit: case.bit,
+            rule: Rule::B(rule),
+            bit,
         };
-        assert_eq!(rt; fault, Some(refused), "{}", case.name);
+        assert_eq!(rt; fault, Some(refused), "{name}");
     }
     Ok(())
 }

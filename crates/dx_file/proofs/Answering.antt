@@ -1,6 +1,6 @@
 -- A file has at most one answer, and the readers of the two layers give it.
-use Rattle.std.proofs.Common.{ℕ, ◌≡◌, ◌*◌, ◌<◌, ◌≤◌, ◌⊎◌, inl, inr, refl, sym, ap, subst, arith, List, Result, Ok, Err}
-use Rattle.dx_base.specs.First.{IsFirst, IsSound}
+use Rattle.std.proofs.Common.{ℕ, ◌≡◌, ◌*◌, inl, inr, sym, ap, subst, arith, List, Ok, Err}
+use Rattle.dx_base.specs.First.{IsFirst}
 use Rattle.dx_base.specs.declared.fault.Fault.{Fault}
 use Rattle.dx_base.specs.declared.fault.Fault.TheVariants.{Refused, Limit, OutOfMemory}
 use Rattle.dx_base.specs.declared.fault.Rule.TheVariants.{C, B, Y, M, N, P, NotYet}
@@ -17,7 +17,6 @@ use Rattle.bitstream_spelling.proofs.Fronts.{whole_unique, whole_sound}
 use Rattle.dx_bitstream.specs.Answers.{ItemsAnswer}
 use Rattle.dx_file.specs.Layers.{Refusal, refused, limited, IsContent, IsFirstOfBitcode, IsFirstRefusal, of_container, of_bitcode, of_records, of_fields}
 use Rattle.dx_file.specs.Reading.{NoRefusal, NoContent, IsOnly, FaultAnswer}
-use Rattle.dx_file.specs.declared.read.File.{File as Content}
 
 -- there is one first
 pub first_unique : (Broken : ℕ → ℕ → Type 0) (r b s c : ℕ) → IsFirst Broken r b → IsFirst Broken s c → (r ≡ s) × (b ≡ c)

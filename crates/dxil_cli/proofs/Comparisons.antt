@@ -1,19 +1,18 @@
 -- The walk over the items that are compared.
-use Rattle.std.proofs.Common.{ℕ, suc, ◌≡◌, ◌+◌, ◌<◌, ◌≤◌, ◌∙◌, refl, sym, ap, subst, arith, List, [], ◌∷◌, ◌++◌, length, take, drop, get_or, slice_get, Some, Bool, true, false, Result, Ok, Err, if◌then◌else◌}
+use Rattle.std.proofs.Common.{ℕ, suc, ◌≡◌, ◌+◌, ◌<◌, ◌≤◌, ◌∙◌, refl, sym, ap, subst, List, [], ◌∷◌, ◌++◌, length, take, drop, get_or, slice_get, Some, Bool, true, false, Result, Err, if◌then◌else◌}
 use Rattle.std.proofs.lemmas.List.{take_more, take_all, take-append-drop, append-nil}
-use Rattle.std.proofs.lemmas.Option.{slice_get-get_or}
 use Rattle.std.proofs.Math.Seq.{drop-cons}
 use Rattle.dx_base.specs.declared.fault.Fault.{Fault}
 use Rattle.dx_base.specs.declared.fault.Fault.TheVariants.{Refused, Limit, OutOfMemory}
 use Rattle.dx_base.specs.declared.fault.Rule.TheVariants.{C, B, Y, M, N, P, NotYet}
-use Rattle.bitstream_spelling.specs.Framed.{bit_of, open_after, open_behind, LiesIn, IsFramed}
+use Rattle.bitstream_spelling.specs.Framed.{open_after, open_behind, LiesIn, IsFramed}
 use Rattle.bitstream_spelling.specs.declared.item.Item.{Item}
 use Rattle.bitstream_spelling.specs.declared.item.Item.TheVariants.{Enter}
 use Rattle.dxil_cli.specs.FirstFailing.{IsFirstFailing, HoldsThroughout}
 use Rattle.dxil_cli.specs.EmptyShader.{Fits}
 use Rattle.dxil_cli.specs.Compared.{is_info, is_passed, info_after, compared_in, compared}
 use Rattle.dxil_cli.specs.Comparing.{IsTaken, IsOther, TakeAnswer, HasTaken, IsOtherItem, CompareAnswer, AreAll}
-use Rattle.dxil_cli.specs.Verdicts.{IsItemsVerdict, other_item, ItemsAnswer}
+use Rattle.dxil_cli.specs.Verdicts.{other_item, ItemsAnswer}
 use Rattle.dxil_cli.specs.declared.comparison.Comparison.{Comparison}
 use Rattle.dxil_cli.proofs.Walking.{throughout_none, throughout_more, first_behind}
 use Rattle.dxil_cli.proofs.Passing.{behind-append, compared-append, info_at, compared_ends, compared_some, compared_stands}

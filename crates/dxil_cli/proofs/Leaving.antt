@@ -1,5 +1,5 @@
 -- What the steps of a run say of the whole.
-use Rattle.std.proofs.Common.{◌≡◌, ◌≤◌, ◌<◌, ◌+◌, ◌^◌, ◌⊎◌, ◌∙◌, inl, inr, ℕ, List, [], ◌∷◌, ◌++◌, Option, Some, None, Result, Ok, Err, IfOk, refl, sym, ap, length, codes, arith, string_bytes, zero, suc}
+use Rattle.std.proofs.Common.{◌≡◌, ◌≤◌, ◌<◌, ◌+◌, ◌^◌, ◌⊎◌, ◌∙◌, inl, inr, ℕ, List, [], ◌∷◌, ◌++◌, Option, Some, None, Result, Ok, Err, IfOk, refl, sym, ap, length, codes, arith, zero, suc}
 use Rattle.std.specs.declared.alloc.AllocError.{AllocError}
 use Rattle.std.proofs.lemmas.Fmt.{decimal_digit}
 use Rattle.dx_base.specs.declared.fault.Which.TheVariants.{File}
@@ -18,7 +18,7 @@ use Rattle.dx_file.specs.Reading.{FaultAnswer}
 use Rattle.dx_show.specs.Showing.{IsShown}
 use Rattle.dxil_cli.specs.Commands.{Command, translate, show, unknown, source, target}
 use Rattle.dxil_cli.specs.Verdicts.{Verdict, written, stopped, IsVerdict, TranslateAnswer}
-use Rattle.dxil_cli.specs.Answers.{Answer, answer_to, refusal_answer, lines_answer, IsTranslated, IsListed, by_lines, by_refusal, IsOfFile, too_long, of_bytes, IsAnswer, rule_name, limit_name, refused_line, limit_line, translated_line, usage_line}
+use Rattle.dxil_cli.specs.Answers.{Answer, answer_to, refusal_answer, IsListed, by_lines, by_refusal, too_long, of_bytes, IsAnswer, rule_name, limit_name, refused_line, limit_line, translated_line, usage_line}
 use Rattle.dxil_cli.specs.Runs.{Read, Tells, FilesAfter, RoseAt, Answered, Leaves, InPlaceOf, IsExact, IsComplete}
 use Rattle.dxil_cli.specs.Outputs.{answer_of, IsOutput, IsListing, IsRefusalOutput, IsFaultOutput, IsOfAnswer, Concluded, whole, failed, lacking, Finishes}
 use Rattle.dxil_cli.proofs.Answering.{status_unique}

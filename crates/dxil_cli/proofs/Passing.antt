@@ -1,5 +1,5 @@
 -- Which items are passed over, and what holds of the others.
-use Rattle.std.proofs.Common.{ℕ, zero, suc, ◌≡◌, ◌<◌, ◌∙◌, refl, ap, arith, List, [], ◌∷◌, ◌++◌, length, take, slice_get, Some, None, Bool, true, false, IsTrue, if◌then◌else◌}
+use Rattle.std.proofs.Common.{ℕ, zero, suc, ◌≡◌, ◌<◌, ◌∙◌, refl, ap, arith, List, [], ◌∷◌, ◌++◌, length, take, slice_get, Some, Bool, true, false, if◌then◌else◌}
 use Rattle.std.proofs.Math.Dec.{eqb-suc-zero}
 use Rattle.bitstream_spelling.specs.Spelling.{rest_of}
 use Rattle.bitstream_spelling.specs.Framed.{open_after, open_behind, StandsIn, IsFramed}

@@ -1,5 +1,5 @@
 -- There is one verdict on a file, and one text of its lines.
-use Rattle.std.proofs.Common.{ℕ, ◌≡◌, ◌*◌, ◌∙◌, refl, sym, ap, subst, arith, List, [], ◌∷◌, length, slice_get, Some}
+use Rattle.std.proofs.Common.{ℕ, ◌≡◌, ◌*◌, ◌∙◌, sym, ap, subst, arith, List, [], ◌∷◌, slice_get, Some}
 use Rattle.dx_base.specs.declared.fault.Rule.TheVariants.{N, NotYet}
 use Rattle.dxbc_container.specs.declared.part.Parts.{Parts}
 use Rattle.bitstream_spelling.specs.Framed.{bit_of}

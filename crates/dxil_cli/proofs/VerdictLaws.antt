@@ -1,5 +1,5 @@
 -- Which answer is the verdict.
-use Rattle.std.proofs.Common.{ℕ, ◌≡◌, ◌*◌, ◌<◌, ◌∙◌, ◌↔◌, sym, ap, subst, arith, List, length, get_or, slice_get, Some, Result, Ok, Err, Bool, true, false, IsTrue}
+use Rattle.std.proofs.Common.{ℕ, ◌≡◌, ◌<◌, ◌∙◌, ◌↔◌, sym, ap, subst, arith, List, length, get_or, slice_get, Some, Result, Ok, Err, Bool, true, false, IsTrue}
 use Rattle.std.proofs.lemmas.Option.{slice_get-get_or}
 use Rattle.dx_base.specs.declared.fault.Fault.{Fault}
 use Rattle.dx_base.specs.declared.fault.Fault.TheVariants.{Refused, Limit, OutOfMemory}
@@ -14,7 +14,7 @@ use Rattle.dxil_cli.specs.EmptyShader.{Expected, empty_shader, thread_count, fir
 use Rattle.dxil_cli.specs.Compared.{compared}
 use Rattle.dxil_cli.specs.ModuleWords.{module_words}
 use Rattle.dxil_cli.specs.Comparing.{IsCountAt, IsNodeBit, AreAll}
-use Rattle.dxil_cli.specs.Verdicts.{IsItemsVerdict, bad_counts, empty_shader as by_shader, IsVerdict, by_layers, by_items, ItemsAnswer, TranslateAnswer, written, stopped}
+use Rattle.dxil_cli.specs.Verdicts.{IsItemsVerdict, bad_counts, empty_shader as by_shader, by_layers, by_items, ItemsAnswer, TranslateAnswer, written, stopped}
 use Rattle.dxil_cli.proofs.Walking.{refuted}
 
 -- where the list has a thread count, a record of one stands

@@ -1,5 +1,5 @@
 -- A walk over a list that stops at the first entry at which a property fails.
-use Rattle.std.proofs.Common.{ℕ, zero, suc, ◌≡◌, ◌+◌, ◌<◌, ◌⊎◌, ◌↔◌, ◌∙◌, Bool, true, false, IsTrue, inl, inr, refl, sym, ap, subst, arith, List, [], ◌∷◌, ◌++◌, length, slice_get, Some}
+use Rattle.std.proofs.Common.{ℕ, zero, suc, ◌≡◌, ◌<◌, ◌⊎◌, ◌↔◌, ◌∙◌, Bool, true, false, IsTrue, inl, inr, refl, sym, ap, subst, arith, List, [], ◌∷◌, ◌++◌, length, slice_get, Some}
 use Rattle.std.proofs.lemmas.Bool.{cases_lt}
 use Rattle.dxil_cli.specs.FirstFailing.{IsFirstFailing, HoldsThroughout}
 

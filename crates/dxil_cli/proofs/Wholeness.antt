@@ -1,7 +1,6 @@
 -- Items that close each block that they open, and each as the empty shader has it at its place, are all of the empty shader's.
 use Rattle.std.proofs.Common.{ℕ, zero, suc, ◌≡◌, ◌<◌, ◌≤◌, ◌∙◌, ◌&&◌, inl, inr, refl, sym, ap, subst, arith, List, [], ◌∷◌, length, take, slice_get, Some, None, Bool, true, false}
 use Rattle.std.proofs.lemmas.Bool.{cases_lt}
-use Rattle.std.proofs.lemmas.Option.{slice_get_within}
 use Rattle.bitstream_spelling.specs.Spelling.{rest_of}
 use Rattle.bitstream_spelling.specs.Framed.{open_after, open_behind}
 use Rattle.bitstream_spelling.specs.declared.item.Item.{Item}

@@ -1,7 +1,7 @@
 -- What the comparison of the items answers.
-use Rattle.std.specs.Prelude.{ℕ, ◌≡◌, ◌*◌, ◌^◌, ◌<◌, [], ◌∷◌, ◌++◌, List, length, slice_get, take, Option, Some, None, Bool, false, if◌then◌else◌, Result, Ok, Err}
+use Rattle.std.specs.Prelude.{ℕ, ◌≡◌, ◌*◌, ◌^◌, ◌<◌, [], ◌∷◌, ◌++◌, List, length, slice_get, take, Option, Some, None, false, if◌then◌else◌, Result, Ok, Err}
 use Rattle.dx_base.specs.declared.fault.Fault.{Fault}
-use Rattle.dx_base.specs.declared.fault.Fault.TheVariants.{Refused, Limit, OutOfMemory}
+use Rattle.dx_base.specs.declared.fault.Fault.TheVariants.{Refused, OutOfMemory}
 use Rattle.dx_base.specs.declared.fault.Rule.TheVariants.{NotYet}
 use Rattle.bitstream_spelling.specs.Framed.{bit_of, open_behind, LiesIn}
 use Rattle.bitstream_spelling.specs.declared.item.Item.{Item}

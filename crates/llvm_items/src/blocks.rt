@@ -2,8 +2,8 @@ ghost use Rattle.std.specs.Prelude.{◌≡◌, [], OnOk, OnErr};
 ghost use Rattle.bitstream_spelling.specs.Framed.{open_after};
 ghost use Rattle.llvm_items.specs.Sites.{is_module, is_within, is_record_of, enters, ends_module};
 
-use dx_base::OutOfMemory;
 use bitstream_spelling::Item;
+use dx_base::OutOfMemory;
 use std::alloc::Global;
 use std::marker::Model;
 

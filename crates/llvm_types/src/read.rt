@@ -6,8 +6,8 @@ ghost use Rattle.llvm_types.specs.Reading.{IsFirstRule, IsKept, StepAnswer, Type
 
 use crate::kind::{TypeList, Types, kind_of};
 use crate::table::{record_rule, takes_number};
-use dx_base::{Fault, List, OutOfMemory, Rule};
 use bitstream_spelling::{Item, Items};
+use dx_base::{Fault, List, OutOfMemory, Rule};
 use llvm_items::{OpenBlocks, bit_of, fields_of};
 use std::alloc::Global;
 

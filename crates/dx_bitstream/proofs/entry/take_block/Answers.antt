@@ -1,4 +1,4 @@
-use Rattle.std.proofs.Common.{arith, refl}
+use Rattle.std.proofs.Common.{arith}
 use Rattle.dx_bitstream.proofs.EntryLaws.{block_short}
 use Rattle.dx_bitstream.proofs.Halting.{refuses}
 use Rattle.dx_bitstream.proofs.PlaceLaws.{step_moved}

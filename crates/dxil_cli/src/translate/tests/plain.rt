@@ -209,29 +209,43 @@ fn info(alloc: Global) -> Result<Bits, AllocError> {
     Ok(bits)
 }
 
-/// The container of the empty shader of 8, 4 and 1 threads, with skipped blocks and blocks 0 among its items, and its constants by an abbreviation.
-pub fn shader_among_others(alloc: Global) -> Result<Vec<u8>, AllocError> {
-    let mut numbers = Bits::new(alloc);
-    numbers.record(4, (1, &[2]))?;
+/// The constants by that abbreviation.
+fn constants_in_short(alloc: Global) -> Result<Bits, AllocError> {
+    let mut bits = Bits::new(alloc);
+    bits.record(4, (1, &[2]))?;
     for number in [12, 0, 8, 16, 2] {
-        numbers.fixed(4, 4)?;
-        numbers.chunks(number, 6)?;
+        bits.fixed(4, 4)?;
+        bits.chunks(number, 6)?;
     }
+    Ok(bits)
+}
+
+/// The body, with the symbol table of one name, which is skipped.
+fn body_with_names(alloc: Global) -> Result<Bits, AllocError> {
     let mut body = rows(alloc, &BODY)?;
     body.block(4, 14, 4, rows(alloc, &[(1, &[0, 97])])?)?;
+    Ok(body)
+}
+
+fn module_among_others(alloc: Global) -> Result<Bits, AllocError> {
     let mut module = Bits::new(alloc);
     module.record(3, (1, &[1]))?;
     module.block(3, 0, 3, info(alloc)?)?;
     module.block(3, 17, 4, rows(alloc, &TYPES)?)?;
     module.block(3, 9, 4, rows(alloc, &TYPES)?)?;
     module.record(3, (8, &[1, 0, 0, 0]))?;
-    module.block(3, 11, 4, numbers)?;
+    module.block(3, 11, 4, constants_in_short(alloc)?)?;
     module.block(3, 15, 4, rows(alloc, &METADATA)?)?;
-    module.block(3, 12, 4, body)?;
+    module.block(3, 12, 4, body_with_names(alloc)?)?;
+    Ok(module)
+}
+
+/// The container of the empty shader of 8, 4 and 1 threads, with skipped blocks and blocks 0 among its items, and its constants by an abbreviation.
+pub fn shader_among_others(alloc: Global) -> Result<Vec<u8>, AllocError> {
     let mut bitcode = Bits::new(alloc);
     bitcode.fixed(0xDEC0_4342, 32)?;
     bitcode.block(2, 0, 4, rows(alloc, &[(2, &[8])])?)?;
     bitcode.block(2, 13, 5, rows(alloc, &BODY)?)?;
-    bitcode.block(2, 8, 3, module)?;
+    bitcode.block(2, 8, 3, module_among_others(alloc)?)?;
     container(alloc, &bitcode)
 }
