@@ -1,0 +1,3 @@
+pub mod Decorations
+pub mod Variables
+pub mod ReadOnly

@@ -1,0 +1,14 @@
+pub mod Blocks
+pub mod Breaking
+pub mod Cases
+pub mod Crossing
+pub mod Deciding
+pub mod Edges
+pub mod Ending
+pub mod Firsts
+pub mod Leaving
+pub mod Listing
+pub mod Merging
+pub mod Numbers
+pub mod Parts
+pub mod Starts

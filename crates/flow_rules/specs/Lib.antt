@@ -1,0 +1,4 @@
+pub mod Answers
+pub mod Flow
+pub mod Lists
+pub mod Rules

@@ -1,0 +1,221 @@
+//! The tables from which the structure rules are answered, each of one number a block.
+
+ghost use Rattle.std.specs.Prelude.{◌≡◌, ◌+◌, ◌-◌, ◌<◌, ◌≤◌, ◌^◌, ℕ, length, slice_index, IfOk};
+ghost use Rattle.flow_rules.specs.Flow.{At};
+ghost use Rattle.flow_rules.specs.Rules.{IsNumbered};
+ghost use Rattle.flow_rules.specs.Lists.{OfFamily, SpanOf, LeastTable, GreatestTable, EndTable, OverTable, AreHighs, AreLows, IsHigh, IsLow, IsLowTo, HighTo, AreTables};
+
+use crate::block::{BasicBlock, Terminator};
+use crate::lists::{Family, spans_of};
+use dx_base::OutOfMemory;
+use flow_scans::{RangeMax, first_ends, greatest_ends, last_holders, last_overs, least_firsts};
+use std::alloc::Global;
+
+/// Numbers for each block.
+#[derive(Debug, Drop)]
+pub struct Tables {
+    /// The first block with a structural edge to it.
+    pub(crate) sources: Vec<u32>,
+    /// The first header whose merge block it is.
+    pub(crate) mergers: Vec<u32>,
+    /// The first block with a back edge to it.
+    pub(crate) first_backs: Vec<u32>,
+    /// The last block with a back edge to it.
+    pub(crate) last_backs: Vec<u32>,
+    /// The first end of a row around it that begins at or behind its header.
+    pub(crate) nested_ends: Vec<u32>,
+    /// The first end of a row around it.
+    pub(crate) row_ends: Vec<u32>,
+    /// The last row around it.
+    pub(crate) row_overs: Vec<u32>,
+    /// The first end of a selection or continue construct that holds it.
+    pub(crate) left_ends: Vec<u32>,
+    /// The first end of a loop construct that holds it.
+    pub(crate) body_ends: Vec<u32>,
+    /// The last loop that holds it.
+    pub(crate) loops: Vec<u32>,
+    /// The last switch whose selection construct holds it.
+    pub(crate) switches: Vec<u32>,
+    /// The first case construct of a switch that has one which begins at it.
+    pub(crate) case_froms: Vec<u32>,
+    /// How far its least target lies below the greatest number.
+    pub(crate) lows: RangeMax,
+    /// Its greatest target.
+    pub(crate) highs: RangeMax,
+}
+
+fn least_table(
+    alloc: Global,
+    family: Family,
+    blocks: &[BasicBlock],
+) -> Result<Vec<u32>, OutOfMemory>
+    requires small { length blocks.now < 2 ^ 32 }
+    requires numbered { IsNumbered blocks.now }
+    ensures { IfOk result (λ v. LeastTable (SpanOf (OfFamily blocks.now family)) (length blocks.now) v.items) }
+{
+    let spans = spans_of(alloc, family, blocks)?;
+    let table = least_firsts(alloc, &spans, blocks.len())?;
+    Ok(table)
+}
+
+fn greatest_table(
+    alloc: Global,
+    family: Family,
+    blocks: &[BasicBlock],
+) -> Result<Vec<u32>, OutOfMemory>
+    requires small { length blocks.now < 2 ^ 32 }
+    requires numbered { IsNumbered blocks.now }
+    ensures { IfOk result (λ v. GreatestTable (SpanOf (OfFamily blocks.now family)) (length blocks.now) v.items) }
+{
+    let spans = spans_of(alloc, family, blocks)?;
+    let table = greatest_ends(alloc, &spans, blocks.len())?;
+    Ok(table)
+}
+
+fn end_table(
+    alloc: Global,
+    family: Family,
+    blocks: &[BasicBlock],
+    gap: u32,
+) -> Result<Vec<u32>, OutOfMemory>
+    requires small { length blocks.now < 2 ^ 32 }
+    requires numbered { IsNumbered blocks.now }
+    ensures { IfOk result (λ v. EndTable (SpanOf (OfFamily blocks.now family)) gap (length blocks.now) v.items) }
+{
+    let spans = spans_of(alloc, family, blocks)?;
+    let table = first_ends(alloc, &spans, blocks.len(), gap)?;
+    Ok(table)
+}
+
+fn over_table(alloc: Global, family: Family, blocks: &[BasicBlock]) -> Result<Vec<u32>, OutOfMemory>
+    requires small { length blocks.now < 2 ^ 32 }
+    requires numbered { IsNumbered blocks.now }
+    ensures { IfOk result (λ v. OverTable (SpanOf (OfFamily blocks.now family)) 1 (length blocks.now) v.items) }
+{
+    let spans = spans_of(alloc, family, blocks)?;
+    let table = last_overs(alloc, &spans, blocks.len())?;
+    Ok(table)
+}
+
+fn holder_table(
+    alloc: Global,
+    family: Family,
+    blocks: &[BasicBlock],
+) -> Result<Vec<u32>, OutOfMemory>
+    requires small { length blocks.now < 2 ^ 32 }
+    requires numbered { IsNumbered blocks.now }
+    ensures { IfOk result (λ v. OverTable (SpanOf (OfFamily blocks.now family)) 0 (length blocks.now) v.items) }
+{
+    let spans = spans_of(alloc, family, blocks)?;
+    let table = last_holders(alloc, &spans, blocks.len())?;
+    Ok(table)
+}
+
+/// The greatest of some targets, or 0 where there is none.
+fn greatest_of(targets: &[u32]) -> u32
+    ensures { HighTo targets.now result }
+{
+    let mut high = 0;
+    for target in targets {
+        high = high.max(*target);
+    }
+    high
+}
+
+/// How far the least of some targets lies below `u32::MAX`, or 0 where there is none.
+fn depth_of(targets: &[u32]) -> u32
+    ensures { IsLowTo targets.now result }
+{
+    let mut low = 0;
+    for target in targets {
+        low = low.max(u32::MAX - *target);
+    }
+    low
+}
+
+/// The greatest target of a block, or `u32::MAX` where it returns.
+fn high_of(block: &BasicBlock) -> u32
+    ensures { IsHigh block.now result }
+{
+    match block.terminator {
+        Terminator::Return => u32::MAX,
+        _ => greatest_of(block.targets.as_slice()),
+    }
+}
+
+/// How far the least target of a block lies below `u32::MAX`, or 0 where there is none.
+fn low_of(block: &BasicBlock) -> u32
+    ensures { IsLow block.now result }
+{
+    depth_of(block.targets.as_slice())
+}
+
+fn highs(alloc: Global, blocks: &[BasicBlock]) -> Result<RangeMax, OutOfMemory>
+    requires { length blocks.now < 2 ^ 32 }
+    ensures { IfOk result (λ v. AreHighs blocks.now v) }
+{
+    let mut values = Vec::new(alloc);
+    for p in 0..blocks.len() {
+        match values.push(high_of(&blocks[p])) {
+            Ok(()) => {}
+            Err(_) => return Err(OutOfMemory),
+        }
+    }
+    let table = RangeMax::new(alloc, values)?;
+    Ok(table)
+}
+
+fn lows(alloc: Global, blocks: &[BasicBlock]) -> Result<RangeMax, OutOfMemory>
+    requires { length blocks.now < 2 ^ 32 }
+    ensures { IfOk result (λ v. AreLows blocks.now v) }
+{
+    let mut values = Vec::new(alloc);
+    for p in 0..blocks.len() {
+        match values.push(low_of(&blocks[p])) {
+            Ok(()) => {}
+            Err(_) => return Err(OutOfMemory),
+        }
+    }
+    let table = RangeMax::new(alloc, values)?;
+    Ok(table)
+}
+
+impl Tables {
+    /// Makes the tables of these blocks, in n log n time and memory.
+    pub fn new(alloc: Global, blocks: &[BasicBlock]) -> Result<Tables, OutOfMemory>
+        requires small { length blocks.now < 2 ^ 32 }
+        requires numbered { IsNumbered blocks.now }
+        ensures { IfOk result (λ t. AreTables blocks.now t) }
+    {
+        let sources = least_table(alloc, Family::Edges, blocks)?;
+        let mergers = least_table(alloc, Family::Headers, blocks)?;
+        let first_backs = least_table(alloc, Family::Backs, blocks)?;
+        let last_backs = greatest_table(alloc, Family::Returns, blocks)?;
+        let nested_ends = end_table(alloc, Family::Nested, blocks, 1)?;
+        let row_ends = end_table(alloc, Family::Rows, blocks, 1)?;
+        let row_overs = over_table(alloc, Family::Rows, blocks)?;
+        let left_ends = end_table(alloc, Family::Lefts, blocks, 0)?;
+        let body_ends = end_table(alloc, Family::Bodies, blocks, 0)?;
+        let loops = holder_table(alloc, Family::Loops, blocks)?;
+        let switches = holder_table(alloc, Family::Switches, blocks)?;
+        let case_froms = least_table(alloc, Family::CaseFroms, blocks)?;
+        let lows = lows(alloc, blocks)?;
+        let highs = highs(alloc, blocks)?;
+        Ok(Tables {
+            sources,
+            mergers,
+            first_backs,
+            last_backs,
+            nested_ends,
+            row_ends,
+            row_overs,
+            left_ends,
+            body_ends,
+            loops,
+            switches,
+            case_froms,
+            lows,
+            highs,
+        })
+    }
+}

@@ -1,0 +1,6 @@
+use Rattle.std.proofs.Common.{◌≡◌, length, take}
+use Rattle.flow_scans.specs.Spans.{AreGreatestEnds}
+use Rattle.flow_scans.proofs.span.greatest_ends.Given as goal
+
+abbrev pub invariant-loop-span : goal.invariant-loop-span
+invariant-loop-span l = (length l.table.items ≡ l.count) × AreGreatestEnds (take l.span-index l.spans) l.count l.table.items

@@ -1,0 +1,8 @@
+//! Scans over spans of blocks: for each block the last span that lies over it and the least end of one, in time that is linear in the spans and the blocks.
+#![tactic(auto)]
+
+mod range;
+mod span;
+
+pub use range::RangeMax;
+pub use span::{Span, first_ends, greatest_ends, last_holders, last_overs, least_firsts};

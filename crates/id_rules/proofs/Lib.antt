@@ -1,0 +1,4 @@
+pub mod BlockLaws
+pub mod UseLaws
+pub mod KeyLaws
+pub mod AgainLaws

@@ -1,0 +1,63 @@
+-- V9, V10, V12 and V15: the entry point, its size, and the pairs of a switch.
+use Rattle.std.specs.Prelude.{ℕ, ◌≡◌, ◌+◌, ◌*◌, ◌==◌, ◌||◌, ◌&&◌, nat_le, nat_lt, not, List, [], take, drop, length, count_by, Bool, true, false, Option, if◌then◌else◌}
+use Rattle.std.specs.List.{list_all}
+use Rattle.std.specs.Option.{option_map_or, unwrap_or}
+use Rattle.spv_form.specs.declared.module.Inst.{Inst}
+use Rattle.spv_form.specs.Operands.{string_last}
+use Rattle.spv_ids.specs.Roles.{operand}
+use Rattle.type_rules.specs.Types.{is_defined_as, is_void}
+
+-- EntryPoint: execution model, function, name, and the ids of its interface, which stand behind the name
+unfoldable pub interface : Inst → List ℕ
+interface x = option_map_or (λ last. drop (last + 1) x.operands) (string_last x.operands 2) []
+
+-- Variable: type, result, storage class. It is global where its class is not Function.
+abbrev pub is_global : Inst → Bool
+is_global x = x.opcode == 59 && not (operand x 2 == 7)
+
+-- each global variable is in this list exactly once
+abbrev pub lists_each_once : List Inst → List ℕ → Bool
+lists_each_once insts ids = list_all (λ y. not (is_global y) || count_by (λ id. id == operand y 1) ids == 1) insts
+
+-- V9: the interface of an EntryPoint does not list each global variable exactly once.
+unfoldable pub is_wrong_interface : List Inst → Inst → Bool
+is_wrong_interface insts x = x.opcode == 15 && not (lists_each_once insts (interface x))
+
+-- the id is a TypeFunction (result, parameters) of void without parameters
+unfoldable pub is_void_function : List Inst → ℕ → Bool
+is_void_function insts t = is_defined_as insts t (λ f. f.opcode == 33 && (length f.operands == 2 && is_void insts (operand f 1)))
+
+-- the id is a Function: type, result, control, and such a function type
+unfoldable pub is_entry : List Inst → ℕ → Bool
+is_entry insts id = is_defined_as insts id (λ f. f.opcode == 54 && is_void_function insts (operand f 3))
+
+-- V10: the entry id of an EntryPoint is not the function, or the function's type is not `void ()`.
+unfoldable pub is_wrong_entry : List Inst → Inst → Bool
+is_wrong_entry insts x = x.opcode == 15 && not (is_entry insts (operand x 1))
+
+-- a thread count from 1 to the greatest
+abbrev pub is_count : ℕ → ℕ → Bool
+is_count most n = nat_le 1 n && nat_le n most
+
+abbrev pub is_size : ℕ → ℕ → ℕ → Bool
+is_size x y z = is_count 1024 x && (is_count 1024 y && (is_count 64 z && nat_le (x * y * z) 1024))
+
+-- V12: a LocalSize (entry point, mode, then three numbers) with a number that is 0, the first or second above 1024, the third above 64, or the product above 1024.
+unfoldable pub is_wrong_size : Inst → Bool
+is_wrong_size x = x.opcode == 16 && not (is_size (operand x 2) (operand x 3) (operand x 4))
+
+-- V15: a Switch (selector, default, then pairs) with more than 16,383 pairs.
+unfoldable pub has_many_pairs : Inst → Bool
+has_many_pairs x = x.opcode == 251 && nat_lt (2 + 2 * 16383) (length x.operands)
+
+-- ---- a table that counts the ids of an interface
+pub record AreCounts (count : ℕ → Option ℕ) (ids : List ℕ) : Type 0 where
+  pub are : (q : ℕ) → unwrap_or (count q) 0 ≡ count_by (λ id. id == q) ids
+
+-- one more of the id
+pub record IsCounted (old new : ℕ → Option ℕ) (id : ℕ) : Type 0 where
+  pub counted : (q : ℕ) → unwrap_or (new q) 0 ≡ unwrap_or (old q) 0 + (if id == q then 1 else 0)
+
+-- by such a table: it is no global variable, or stands once
+abbrev pub is_listed_once : (ℕ → Option ℕ) → Inst → Bool
+is_listed_once count y = not (is_global y) || unwrap_or (count (operand y 1)) 0 == 1

@@ -1,0 +1,153 @@
+ghost use Rattle.std.specs.Prelude.{◌≡◌, ◌+◌, ◌<◌, ◌≤◌, ◌^◌, length, IfOk, OnOk};
+ghost use Rattle.std.specs.List.{list_all};
+ghost use Rattle.std.specs.Option.{unwrap_or};
+ghost use Rattle.std.specs.Ordering.{nat_cmp};
+ghost use Rattle.std.specs.BTreeMap as tree;
+ghost use Rattle.module_rules.specs.Entry as entry;
+
+use dx_base::OutOfMemory;
+use spirv_words::last_of;
+use spv_form::{Inst, Shape, op};
+use spv_ids::{Ids, operand};
+use std::alloc::Global;
+use std::collections::BTreeMap;
+use type_rules::is_void;
+
+/// The ids of an entry point's interface, which stand behind its name.
+#[tactic(auto, unfolding(crate::specs::Entry::interface))]
+fn interface(inst: &Inst) -> &[u32]
+    ensures ids { result.now ≡ entry.interface inst.now }
+    ensures few { length result.now ≤ length inst.now.operands }
+{
+    let operands = inst.operands.as_slice();
+    let shape = Shape::Text {
+        before: 2,
+        after: true,
+        numbers: 1,
+    };
+    match last_of(shape, operands) {
+        Some(last) => {
+            if last < operands.len() {
+                &operands[last + 1..]
+            } else {
+                &operands[..0]
+            }
+        }
+        None => &operands[..0],
+    }
+}
+
+/// Counts an id.
+fn count(counts: &mut BTreeMap<u32, u32>, id: u32) -> Result<(), OutOfMemory>
+    requires { unwrap_or (tree.get nat_cmp counts.old id) 0 + 1 < 2 ^ 32 }
+    ensures { OnOk result (entry.IsCounted (tree.get nat_cmp counts.old) (tree.get nat_cmp counts.new) id) }
+{
+    let before = counts.get(&id).copied().unwrap_or(0);
+    match counts.insert(id, before + 1) {
+        Ok(_) => Ok(()),
+        Err(_) => Err(OutOfMemory),
+    }
+}
+
+/// How often each id stands in a list.
+fn counts_of(alloc: Global, ids: &[u32]) -> Result<BTreeMap<u32, u32>, OutOfMemory>
+    requires { length ids.now < 2 ^ 32 }
+    ensures { IfOk result (λ counts. entry.AreCounts (tree.get nat_cmp counts) ids.now) }
+{
+    let mut counts = BTreeMap::new(alloc);
+    for id in ids {
+        count(&mut counts, *id)?;
+    }
+    Ok(counts)
+}
+
+/// Whether an instruction is no global variable, or stands once by the counts.
+fn is_listed_once(counts: &BTreeMap<u32, u32>, inst: &Inst) -> bool
+    ensures { result ≡ entry.is_listed_once (tree.get nat_cmp counts.now) inst.now }
+{
+    if inst.opcode != op::VARIABLE || operand(inst, 2) == 7 {
+        return true;
+    }
+    counts.get(&operand(inst, 1)).copied().unwrap_or(0) == 1
+}
+
+/// Whether each global variable stands once by the counts.
+fn are_listed_once(counts: &BTreeMap<u32, u32>, insts: &[Inst]) -> bool
+    ensures { result ≡ list_all (entry.is_listed_once (tree.get nat_cmp counts.now)) insts.now }
+{
+    insts.iter().all(|inst| is_listed_once(counts, inst))
+}
+
+/// Whether an instruction is an entry point whose interface does not list each global variable exactly once (rule V9).
+#[tactic(auto, unfolding(crate::specs::Entry::is_wrong_interface))]
+pub fn is_wrong_interface(alloc: Global, ids: &Ids, inst: &Inst) -> Result<bool, OutOfMemory>
+    requires { length inst.now.operands < 2 ^ 32 }
+    ensures { IfOk result (λ wrong. wrong ≡ entry.is_wrong_interface ids.now inst.now) }
+{
+    if inst.opcode != op::ENTRY_POINT {
+        return Ok(false);
+    }
+    let counts = counts_of(alloc, interface(inst))?;
+    Ok(!are_listed_once(&counts, ids.insts()))
+}
+
+/// Whether the id is a type of functions of void without parameters.
+#[tactic(auto, unfolding(crate::specs::Entry::is_void_function))]
+fn is_void_function(ids: &Ids, ty: u32) -> bool
+    ensures { result ≡ entry.is_void_function ids.now ty }
+{
+    match ids.definition(ty) {
+        Some(inst) => {
+            inst.opcode == op::TYPE_FUNCTION
+                && inst.operands.len() == 2
+                && is_void(ids, operand(inst, 1))
+        }
+        None => false,
+    }
+}
+
+/// Whether the id is a function of void without parameters.
+#[tactic(auto, unfolding(crate::specs::Entry::is_entry))]
+fn is_entry(ids: &Ids, id: u32) -> bool
+    ensures { result ≡ entry.is_entry ids.now id }
+{
+    match ids.definition(id) {
+        Some(inst) => inst.opcode == op::FUNCTION && is_void_function(ids, operand(inst, 3)),
+        None => false,
+    }
+}
+
+/// Whether an instruction is an entry point whose function is none of void without parameters (rule V10).
+#[tactic(auto, unfolding(crate::specs::Entry::is_wrong_entry))]
+pub fn is_wrong_entry(ids: &Ids, inst: &Inst) -> bool
+    ensures { result ≡ entry.is_wrong_entry ids.now inst.now }
+{
+    inst.opcode == op::ENTRY_POINT && !is_entry(ids, operand(inst, 1))
+}
+
+/// Whether three thread counts are from 1 to 1024, 1024 and 64, and their product is at most 1024.
+fn is_size(x: u32, y: u32, z: u32) -> bool
+    ensures { result ≡ entry.is_size x y z }
+{
+    if x < 1 || x > 1024 || y < 1 || y > 1024 || z < 1 || z > 64 {
+        return false;
+    }
+    x * y * z <= 1024
+}
+
+/// Whether an instruction is a size of thread groups that is out of bounds (rule V12).
+#[tactic(auto, unfolding(crate::specs::Entry::is_wrong_size))]
+pub fn is_wrong_size(inst: &Inst) -> bool
+    ensures { result ≡ entry.is_wrong_size inst.now }
+{
+    inst.opcode == op::EXECUTION_MODE
+        && !is_size(operand(inst, 2), operand(inst, 3), operand(inst, 4))
+}
+
+/// Whether an instruction is a switch with more than 16,383 pairs (rule V15).
+#[tactic(auto, unfolding(crate::specs::Entry::has_many_pairs))]
+pub fn has_many_pairs(inst: &Inst) -> bool
+    ensures { result ≡ entry.has_many_pairs inst.now }
+{
+    inst.opcode == op::SWITCH && inst.operands.len() > 2 + 2 * 16383
+}
