@@ -1,7 +1,6 @@
 -- The set of the read-only pointers with one instruction more.
-use Rattle.std.proofs.Common.{ℕ, ◌≡◌, ◌+◌, ◌<◌, ◌≤◌, ◌&&◌, ◌||◌, ◌⊎◌, inl, inr, refl, sym, ap, subst, ◌∙◌, arith, List, [], ◌∷◌, length, take, get_or, slice_get, Option, Some, None, Bool, true, false, cond, eqb, ltb}
+use Rattle.std.proofs.Common.{ℕ, ◌≡◌, ◌+◌, ◌<◌, ◌≤◌, ◌&&◌, ◌||◌, ◌⊎◌, inl, inr, refl, sym, ap, subst, ◌∙◌, arith, List, [], length, get_or, slice_get, Option, Some, None, Bool, true, false, cond, eqb}
 use Rattle.std.proofs.lemmas.Bool.{eqb-true, eq-eqb, cases_lt}
-use Rattle.std.proofs.lemmas.Grind.{common_steps}
 use Rattle.std.proofs.lemmas.List.Quantifiers.{position-Some}
 use Rattle.std.proofs.lemmas.Option.{slice_get-get_or, same_Some}
 use Rattle.spv_form.specs.declared.module.Inst.{Inst}
@@ -9,7 +8,6 @@ use Rattle.spv_ids.specs.Roles.{operand, defines, result_of}
 use Rattle.spv_ids.specs.Ids.{definer}
 use Rattle.spv_ids.specs.Places.{is_before, is_there}
 use Rattle.spv_ids.proofs.IdLaws.{defines_none, defines_is}
-use Rattle.decoration_rules.specs.declared.marks.Marks.{Marks}
 use Rattle.decoration_rules.specs.Decorations.{marks_of}
 use Rattle.decoration_rules.specs.ReadOnly.{IsDefinedAt, IsReadOnly, IsSetOf, IsSetUpTo, IsNext, makes, adds}
 

@@ -1,5 +1,5 @@
 -- The decorations of an id that the rules ask for. Where several decorations of an id are of one kind, its number is that of the first that has one.
-use Rattle.std.specs.Prelude.{ℕ, ◌≡◌, ◌==◌, ◌&&◌, ◌||◌, nat_lt, List, Bool, true, false, Option, Some, None, option_map, length, if◌then◌else◌}
+use Rattle.std.specs.Prelude.{ℕ, ◌≡◌, ◌==◌, ◌&&◌, ◌||◌, nat_lt, List, Bool, false, Option, Some, None, option_map, length, if◌then◌else◌}
 use Rattle.std.specs.Option.{option_or, unwrap_or}
 use Rattle.std.specs.List.{list_any, find}
 use Rattle.spv_form.specs.declared.module.Inst.{Inst}

@@ -1,12 +1,10 @@
 -- Pointers into memory that may not be written.
-use Rattle.std.specs.Prelude.{ℕ, ◌≡◌, ◌+◌, ◌<◌, ◌==◌, ◌&&◌, ◌||◌, nat_lt, List, length, Bool, true, false, Option, Some, None, slice_get, if◌then◌else◌}
-use Rattle.std.specs.Option.{option_map_or}
+use Rattle.std.specs.Prelude.{ℕ, ◌≡◌, ◌<◌, ◌==◌, ◌&&◌, ◌||◌, List, Bool, true, false, Option, Some, None, slice_get, if◌then◌else◌}
 use Rattle.spv_form.specs.declared.module.Inst.{Inst}
 use Rattle.spv_form.specs.Shapes.{is_from}
 use Rattle.spv_ids.specs.Roles.{operand, defines}
 use Rattle.spv_ids.specs.Ids.{definer}
 use Rattle.spv_ids.specs.Places.{is_before, is_there}
-use Rattle.decoration_rules.specs.declared.marks.Marks.{Marks}
 use Rattle.decoration_rules.specs.Decorations.{marks_of}
 
 -- the id is first defined at place i, by x

@@ -1,5 +1,5 @@
 -- What the decorations of a variable and of its type have to be.
-use Rattle.std.specs.Prelude.{ℕ, ◌≡◌, ◌+◌, ◌^◌, ◌<◌, ◌==◌, ◌&&◌, ◌||◌, nat_lt, List, Bool, true, false, Option, Some, None, option_map, option_and_then, IfSome, count_by, if◌then◌else◌}
+use Rattle.std.specs.Prelude.{ℕ, ◌≡◌, ◌+◌, ◌^◌, ◌<◌, ◌==◌, ◌&&◌, ◌||◌, nat_lt, List, Bool, true, false, Option, None, option_map, option_and_then, IfSome, count_by, if◌then◌else◌}
 use Rattle.std.specs.Option.{option_map_or, unwrap_or}
 use Rattle.std.specs.Ordering.{nat_cmp, ordering_then}
 use Rattle.std.specs.declared.cmp.Ordering.{Ordering}
@@ -7,7 +7,6 @@ use Rattle.spv_form.specs.declared.module.Inst.{Inst}
 use Rattle.spv_ids.specs.Roles.{operand}
 use Rattle.type_rules.specs.Types.{is_defined_as}
 use Rattle.type_rules.specs.Values.{pointer_type}
-use Rattle.decoration_rules.specs.declared.marks.Marks.{Marks}
 use Rattle.decoration_rules.specs.Decorations.{marks_of}
 
 -- Variable: type, result, storage class. A buffer variable is of class Uniform or StorageBuffer.

@@ -1,12 +1,11 @@
 -- What a block determines.
-use Rattle.std.proofs.Common.{ℕ, zero, suc, [], ◌∷◌, get_or, ◌≡◌, ◌≢◌, ◌<◌, ◌≤◌, ◌+◌, ◌⊎◌, inl, inr, refl, sym, ap, subst, ◌∙◌, arith, List, length, slice_get, Some, None, Option}
+use Rattle.std.proofs.Common.{ℕ, zero, suc, [], ◌∷◌, get_or, ◌≡◌, ◌<◌, inl, inr, sym, ap, ◌∙◌, arith, List, length, slice_get, Some}
 use Rattle.std.proofs.lemmas.Bool.{cases_lt}
 use Rattle.std.proofs.lemmas.Option.{slice_get_within}
 use Rattle.flow_rules.specs.declared.block.BasicBlock.{BasicBlock}
 use Rattle.flow_rules.specs.declared.block.Merge.{Merge}
-use Rattle.flow_rules.specs.declared.block.MergeKind.{MergeKind}
-use Rattle.flow_rules.specs.declared.block.MergeKind.TheVariants.{Selection, Loop}
-use Rattle.flow_rules.specs.Flow.{Row, In, At, Edge, Header, Selects, Loops, Switches, StructuralEdge, BackEdge, SoleBack, IsConstruct, selection, loop_construct, continue_construct, IsLoop, IsCase, CaseStart, IsRow, is_construct, is_loop, is_case, InnermostLoop, InnermostSwitch}
+use Rattle.flow_rules.specs.declared.block.MergeKind.TheVariants.{Loop}
+use Rattle.flow_rules.specs.Flow.{At, Header, Loops}
 
 pub data Compared (a b : ℕ) : Type 0 where
   is_less : a < b → Compared a b

@@ -1,14 +1,13 @@
 -- Which branch edges leave a construct to a block to which they may not, where nothing is broken before.
-use Rattle.std.proofs.Common.{ℕ, zero, suc, ◌≡◌, ◌≢◌, ◌<◌, ◌≤◌, ◌+◌, ◌-◌, ◌^◌, ◌⊎◌, inl, inr, refl, sym, ap, subst, ◌∙◌, arith, List, length, slice_get, Some, None, Option}
+use Rattle.std.proofs.Common.{ℕ, zero, suc, ◌≡◌, ◌≢◌, ◌<◌, ◌≤◌, ◌+◌, ◌⊎◌, inl, inr, refl, sym, subst, ◌∙◌, arith, List}
 use Rattle.std.proofs.lemmas.Bool.{cases_lt}
 use Rattle.flow_rules.specs.declared.block.BasicBlock.{BasicBlock}
 use Rattle.flow_rules.specs.declared.block.Merge.{Merge}
-use Rattle.flow_rules.specs.declared.block.MergeKind.TheVariants.{Selection, Loop}
-use Rattle.flow_rules.specs.Flow.{Row, In, At, Edge, Header, Selects, Loops, Switches, BackEdge, SoleBack, IsConstruct, selection, loop_construct, continue_construct, IsLoop, IsRow, is_construct, is_loop, InnermostLoop, InnermostSwitch, IsSwitchRow}
-use Rattle.flow_rules.specs.Rules.{BreaksEdge, s10, BreaksMerge, s4, s5_before, s5_behind, s7, s8_outside, Cross, MayLeave, to_loop_merge, to_continue, to_switch_merge, to_header}
-use Rattle.flow_rules.specs.Lists.{FirstEnd, LastOver, SpanOf, BodyOf, ContinueOf, LoopOf, SelectionOf, LeftOf, left_selection, left_continue}
-use Rattle.flow_rules.proofs.Blocks.{header_same, merge_same, loops_same}
-use Rattle.flow_rules.proofs.Crossing.{whole, IsNarrow}
+use Rattle.flow_rules.specs.Flow.{Row, In, Header, Loops, SoleBack, IsConstruct, selection, loop_construct, continue_construct, IsRow, is_construct, is_loop, InnermostLoop}
+use Rattle.flow_rules.specs.Rules.{BreaksEdge, s10, BreaksMerge, s5_before, s5_behind, s7, s8_outside, MayLeave, to_loop_merge, to_continue, to_switch_merge, to_header}
+use Rattle.flow_rules.specs.Lists.{FirstEnd, LastOver, SpanOf, BodyOf, LoopOf, LeftOf, left_selection, left_continue}
+use Rattle.flow_rules.proofs.Blocks.{merge_same}
+use Rattle.flow_rules.proofs.Crossing.{whole}
 use Rattle.flow_rules.proofs.Leaving.{InnerAt, inner_at, inner_is}
 
 module _ (bs : List BasicBlock) where

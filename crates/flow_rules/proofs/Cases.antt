@@ -1,13 +1,13 @@
 -- The case constructs of a switch, and which branch edges go from one to another.
-use Rattle.std.proofs.Common.{ℕ, zero, suc, ◌≡◌, ◌≢◌, ◌<◌, ◌≤◌, ◌+◌, ◌-◌, ◌^◌, ◌⊎◌, inl, inr, refl, sym, ap, subst, ◌∙◌, arith, List, [], ◌∷◌, length, slice_get, Some, None, Option}
+use Rattle.std.proofs.Common.{ℕ, zero, suc, ◌≡◌, ◌≢◌, ◌<◌, ◌≤◌, ◌-◌, ◌^◌, ◌⊎◌, inl, inr, refl, sym, subst, arith, List, [], ◌∷◌}
 use Rattle.std.proofs.lemmas.Bool.{cases_lt}
 use Rattle.std.specs.List.{Contains}
 use Rattle.flow_rules.specs.declared.block.BasicBlock.{BasicBlock}
 use Rattle.flow_rules.specs.declared.block.Merge.{Merge}
-use Rattle.flow_rules.specs.Flow.{Row, In, At, Edge, Header, Loops, Switches, IsCase, CaseStart, IsRow}
+use Rattle.flow_rules.specs.Flow.{Row, In, Loops, Switches, IsCase, CaseStart}
 use Rattle.flow_rules.specs.Rules.{BreaksEdge, s11, IsClear}
 use Rattle.flow_rules.specs.Lists.{LeastFirst, SpanOf, CaseFrom}
-use Rattle.flow_rules.proofs.Blocks.{Compared, is_less, is_same, is_more, compared, header_same, at_same}
+use Rattle.flow_rules.proofs.Blocks.{is_less, is_same, is_more, compared, header_same, at_same}
 use Rattle.flow_rules.proofs.Crossing.{entering}
 
 pub contains_cons : {X : Type 0} (x t : X) (xs : List X) → Contains (x ∷ xs) t → (x ≡ t) ⊎ Contains xs t

@@ -1,14 +1,14 @@
 -- Where nothing is broken before a header, its rows cross one of an earlier header exactly where it ends behind the least end of a row that is open there.
-use Rattle.std.proofs.Common.{ℕ, ◌≡◌, ◌≢◌, ◌<◌, ◌≤◌, ◌+◌, ◌⊎◌, inl, inr, refl, sym, ap, subst, ◌∙◌, arith, List, length, slice_get, Some, None, Option}
+use Rattle.std.proofs.Common.{ℕ, ◌≡◌, ◌<◌, ◌≤◌, ◌+◌, inl, inr, refl, sym, ap, subst, arith, List}
 use Rattle.std.proofs.lemmas.Bool.{cases_lt}
 use Rattle.flow_rules.specs.declared.block.BasicBlock.{BasicBlock}
 use Rattle.flow_rules.specs.declared.block.Merge.{Merge}
 use Rattle.flow_rules.specs.declared.block.MergeKind.{MergeKind}
 use Rattle.flow_rules.specs.declared.block.MergeKind.TheVariants.{Selection, Loop}
-use Rattle.flow_rules.specs.Flow.{Row, In, At, Edge, Header, Selects, Loops, IsConstruct, selection, loop_construct, continue_construct, IsLoop, IsCase, CaseStart, IsRow, is_construct, is_loop, is_case}
-use Rattle.flow_rules.specs.Rules.{BreaksEnd, by_target, s9, BreaksMerge, s7, s5_before, s5_behind, Cross, IsClear, Merges, by_header}
-use Rattle.flow_rules.specs.Lists.{FirstEnd, SpanOf, HeaderOf, BodyOf, CaseOf, NestedOf, nested_header, nested_body, nested_case}
-use Rattle.flow_rules.proofs.Blocks.{Compared, is_less, is_same, is_more, compared, merge_same}
+use Rattle.flow_rules.specs.Flow.{Row, In, Edge, Header, Loops, selection, loop_construct, continue_construct, IsRow, is_construct, is_loop, is_case}
+use Rattle.flow_rules.specs.Rules.{by_target, s9, BreaksMerge, s7, Cross, IsClear}
+use Rattle.flow_rules.specs.Lists.{FirstEnd, SpanOf, NestedOf, nested_header, nested_body, nested_case}
+use Rattle.flow_rules.proofs.Blocks.{is_less, is_same, is_more, compared}
 
 -- a row with given numbers
 pub record RowWith (bs : List BasicBlock) (h f e : ℕ) : Type 0 where

@@ -1,19 +1,16 @@
 -- What the tables decide at labels and merge instructions.
-use Rattle.std.proofs.Common.{ℕ, zero, suc, ◌≡◌, ◌≢◌, ◌<◌, ◌≤◌, ◌+◌, ◌-◌, ◌^◌, ◌⊎◌, inl, inr, refl, sym, ap, subst, ◌∙◌, arith, List, [], ◌∷◌, length, get_or, slice_get, Option, Some, None, Bool, true, false, nat_lt, ltb, leb, IsTrue, ◌↔◌}
-use Rattle.std.proofs.lemmas.Bool.{cases_lt, cases_eq, ltb-true, ltb-false, leb-true, leb-false}
+use Rattle.std.proofs.Common.{ℕ, zero, suc, ◌≡◌, ◌≢◌, ◌<◌, ◌≤◌, ◌+◌, ◌-◌, ◌^◌, ◌⊎◌, inl, inr, refl, sym, ap, subst, ◌∙◌, arith, List, [], ◌∷◌, length, get_or, slice_get, Some, Bool, true, false, ltb, leb, IsTrue, ◌↔◌}
+use Rattle.std.proofs.lemmas.Bool.{cases_lt, ltb-true, ltb-false, leb-true, leb-false}
 use Rattle.std.specs.List.{Contains}
 use Rattle.flow_scans.specs.Ranges.{Exceeds}
 use Rattle.flow_rules.specs.declared.block.BasicBlock.{BasicBlock}
 use Rattle.flow_rules.specs.declared.block.Merge.{Merge}
-use Rattle.flow_rules.specs.declared.block.MergeKind.{MergeKind}
-use Rattle.flow_rules.specs.declared.block.MergeKind.TheVariants.{Selection, Loop}
-use Rattle.flow_rules.specs.declared.block.Terminator.TheVariants.{Return}
-use Rattle.flow_rules.specs.declared.lists.Family.TheVariants.{Edges, Headers, Backs}
-use Rattle.flow_rules.specs.Flow.{Row, In, At, Edge, Header, Loops, Selects, StructuralEdge, BackEdge, SoleBack, IsRow}
-use Rattle.flow_rules.specs.Rules.{Suits, Strays, Merges, by_stray, by_header, Escapes, by_return, by_edge, BreaksLabel, s12_unreached, s12_first, BreaksMerge, s2_stray, s2_kind, s3, s4, s5_before, s5_behind, s6, s7, s8_outside, s8_leaves, Cross, IsClear, IsNumbered, AreInOrder}
-use Rattle.flow_rules.specs.Lists.{SpanOf, LeastFirst, GreatestEnd, FirstEnd, EdgeOf, HeaderOf, BackOf, BackTo, NestedOf, IsHigh, high_return, high_target, IsLowTo, AreHighs, AreLows}
-use Rattle.flow_rules.specs.Answers.{Tells, SoleAnswer, IsTidy, SomeEscapes}
-use Rattle.flow_rules.proofs.Blocks.{at_same, at_below, header_same, loops_same, merge_same, Compared, is_less, is_same, is_more, compared}
+use Rattle.flow_rules.specs.declared.lists.Family.TheVariants.{Edges, Backs}
+use Rattle.flow_rules.specs.Flow.{Row, In, At, Header, Loops, StructuralEdge, BackEdge, SoleBack}
+use Rattle.flow_rules.specs.Rules.{Strays, Merges, by_stray, by_header, Escapes, by_return, by_edge, BreaksLabel, s12_unreached, s12_first, BreaksMerge, s2_stray, s3, s4, s5_before, s5_behind, s7, s8_outside, s8_leaves, IsClear, AreInOrder}
+use Rattle.flow_rules.specs.Lists.{SpanOf, LeastFirst, GreatestEnd, FirstEnd, EdgeOf, HeaderOf, BackOf, BackTo, NestedOf, IsHigh, high_return, high_target, AreHighs, AreLows}
+use Rattle.flow_rules.specs.Answers.{Tells, IsTidy, SomeEscapes}
+use Rattle.flow_rules.proofs.Blocks.{header_same, loops_same, is_less, is_same, is_more, compared}
 use Rattle.flow_rules.proofs.Parts.{family_within}
 use Rattle.flow_rules.proofs.Crossing.{IsNarrow, crossing_found, crossing_none}
 

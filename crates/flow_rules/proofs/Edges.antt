@@ -1,5 +1,5 @@
 -- The least rule that is broken at a branch edge, where nothing is broken before.
-use Rattle.std.proofs.Common.{ℕ, zero, suc, ◌≡◌, ◌≢◌, ◌<◌, ◌≤◌, ◌+◌, ◌-◌, ◌^◌, ◌⊎◌, inl, inr, refl, sym, ap, subst, ◌∙◌, arith, List, [], ◌∷◌, ◌++◌, length, get_or, take, Option, Some, None, Bool, true, false, leb, min}
+use Rattle.std.proofs.Common.{ℕ, ◌≡◌, ◌≢◌, ◌<◌, ◌≤◌, ◌+◌, ◌-◌, ◌^◌, ◌⊎◌, inl, inr, refl, sym, subst, ◌∙◌, arith, List, length, get_or, take, Option, Some, None, leb, min}
 use Rattle.std.proofs.lemmas.Bool.{cases_lt, cases_eq}
 use Rattle.std.proofs.lemmas.List.{take_all}
 use Rattle.std.specs.List.{Contains}
@@ -7,11 +7,11 @@ use Rattle.flow_scans.specs.declared.span.Span.{Span}
 use Rattle.flow_rules.specs.declared.block.BasicBlock.{BasicBlock}
 use Rattle.flow_rules.specs.declared.block.Merge.{Merge}
 use Rattle.flow_rules.specs.declared.tables.Tables.{Tables}
-use Rattle.flow_rules.specs.Flow.{Row, In, At, Edge, Header, Loops, BackEdge, SoleBack}
-use Rattle.flow_rules.specs.Rules.{BreaksEdge, s6_target, s9, s10, s11, BreaksMerge, s6, BreaksEnd, s1_none, s1_equal, by_target, MayLeave, IsClear, IsMergeClear, Merges, by_header}
+use Rattle.flow_rules.specs.Flow.{At, Edge, Header, SoleBack}
+use Rattle.flow_rules.specs.Rules.{BreaksEdge, s6_target, s9, s10, s11, BreaksMerge, s6, BreaksEnd, s1_none, s1_equal, by_target, MayLeave, IsClear, IsMergeClear, by_header}
 use Rattle.flow_rules.specs.Lists.{SpanOf, LastOver, LeastFirst, FirstEnd, LoopOf, BodyOf, LeftOf, RowOf, CaseFrom, IsSpanOf, AreTables}
 use Rattle.flow_rules.specs.Answers.{Tells, RuleAnswer, NoneBelow, BreaksSome, lesser_of}
-use Rattle.flow_rules.proofs.Blocks.{at_same, at_below, header_same, loops_same}
+use Rattle.flow_rules.proofs.Blocks.{at_same, at_below}
 use Rattle.flow_rules.proofs.Deciding.{sole_found, sole_none, tells_le}
 use Rattle.flow_rules.proofs.Merging.{none_more, answer_some, answer_none}
 use Rattle.flow_rules.proofs.Leaving.{forward_enters, forward_stays, back_enters, back_stays}

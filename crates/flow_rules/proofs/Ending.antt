@@ -1,19 +1,17 @@
 -- What is decided at terminators.
-use Rattle.std.proofs.Common.{ℕ, zero, suc, ◌≡◌, ◌≢◌, ◌<◌, ◌≤◌, ◌+◌, ◌-◌, ◌^◌, ◌⊎◌, inl, inr, refl, sym, ap, subst, ◌∙◌, arith, List, [], ◌∷◌, length, get_or, slice_get, Option, Some, None, Bool, true, false, IsTrue, ◌↔◌}
-use Rattle.std.proofs.lemmas.Bool.{cases_lt, cases_eq}
+use Rattle.std.proofs.Common.{ℕ, zero, suc, ◌≡◌, ◌≢◌, ◌<◌, ◌≤◌, ◌+◌, ◌⊎◌, inl, inr, refl, sym, ap, subst, ◌∙◌, arith, List, [], ◌∷◌, length, get_or, Option, Some, None, Bool, true, false}
 use Rattle.std.specs.List.{Contains}
 use Rattle.std.specs.Prelude.{not}
 use Rattle.flow_scans.specs.declared.span.Span.{Span}
 use Rattle.flow_rules.specs.declared.block.BasicBlock.{BasicBlock}
 use Rattle.flow_rules.specs.declared.block.Merge.{Merge}
 use Rattle.flow_rules.specs.declared.block.Terminator.TheVariants.{Branch, BranchConditional, Switch, Return}
-use Rattle.flow_rules.specs.Flow.{Row, In, At, Edge, Header, Loops, Switches, StructuralEdge, by_branch, BackEdge, SoleBack, IsLoop, InnermostLoop, InnermostSwitch}
-use Rattle.flow_rules.specs.Rules.{Forks, conditional, switch, ClosesLoop, MayLeave, to_loop_merge, to_continue, to_switch_merge, to_header, BreaksEnd, s1_none, s1_equal, by_target, BreaksEdge, s6_target, s9, s10, s11, IsNumbered}
+use Rattle.flow_rules.specs.Flow.{At, Edge, Loops, Switches}
+use Rattle.flow_rules.specs.Rules.{Forks, conditional, switch, ClosesLoop, MayLeave, to_loop_merge, to_continue, to_switch_merge, to_header, BreaksEnd, s1_none, s1_equal, by_target, BreaksEdge, s6_target, s9, s10, s11}
 use Rattle.flow_rules.specs.Lists.{SpanOf, LastOver, LoopOf, BodyOf, SwitchOf, IsSpanOf}
-use Rattle.flow_rules.specs.Answers.{Tells, RuleAnswer, NoneBelow, Closing, IsDoubled, EndsAt, LoopExit, loop_merge, loop_continue, SwitchExit}
-use Rattle.flow_rules.proofs.Blocks.{at_same, at_below, header_same, loops_same, merge_same}
-use Rattle.flow_rules.proofs.Deciding.{true_tells, false_tells}
-use Rattle.flow_rules.proofs.Leaving.{InnerAt, inner_at, inner_is, SwitchAt, switch_at, switch_is}
+use Rattle.flow_rules.specs.Answers.{Tells, Closing, IsDoubled, EndsAt, LoopExit, loop_merge, loop_continue, SwitchExit}
+use Rattle.flow_rules.proofs.Blocks.{loops_same, merge_same}
+use Rattle.flow_rules.proofs.Leaving.{inner_at, inner_is, switch_at, switch_is}
 
 pub true_not_false : (t : Bool) → t ≡ true → t ≡ false → ⊥
 true_not_false t a b = cc

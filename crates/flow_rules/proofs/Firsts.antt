@@ -1,5 +1,5 @@
 -- The first broken rule of all stands at the first place at which something is broken.
-use Rattle.std.proofs.Common.{ℕ, zero, suc, ◌≡◌, ◌≢◌, ◌<◌, ◌≤◌, ◌+◌, ◌⊎◌, inl, inr, refl, sym, ap, subst, ◌∙◌, arith, List, [], ◌∷◌, length, get_or, slice_get, Option, Some, None}
+use Rattle.std.proofs.Common.{ℕ, ◌≡◌, ◌<◌, ◌≤◌, ◌+◌, ◌⊎◌, inl, inr, refl, sym, ap, subst, ◌∙◌, arith, List, [], ◌∷◌, length, slice_get, Some, None}
 use Rattle.std.proofs.lemmas.Bool.{cases_lt, cases_eq}
 use Rattle.std.proofs.lemmas.Option.{slice_get_within, slice_get-get_or, get_or_from_slice_get}
 use Rattle.std.specs.List.{Contains}
@@ -9,7 +9,7 @@ use Rattle.flow_rules.specs.declared.block.Merge.{Merge}
 use Rattle.flow_rules.specs.Flow.{At, Header}
 use Rattle.flow_rules.specs.Rules.{Strays, Merges, by_stray, by_header, BreaksLabel, s12_unreached, s12_first, BreaksMerge, s2_stray, BreaksEnd, Broken, at_label, at_merge, at_end, AreInOrder, IsClear, IsMergeClear}
 use Rattle.flow_rules.specs.Answers.{RuleAnswer, IsTidy}
-use Rattle.flow_rules.proofs.Blocks.{at_same, at_below, header_same, some_same, Compared, is_less, is_same, is_more, compared}
+use Rattle.flow_rules.proofs.Blocks.{at_same, at_below, header_same, some_same, is_less, is_same, is_more, compared}
 use Rattle.flow_rules.proofs.Merging.{merge_first}
 
 module _ (bs : List BasicBlock) where

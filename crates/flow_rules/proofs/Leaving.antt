@@ -1,15 +1,12 @@
 -- Which branch edges enter and leave rows, by the tables.
-use Rattle.std.proofs.Common.{ℕ, zero, suc, ◌≡◌, ◌≢◌, ◌<◌, ◌≤◌, ◌+◌, ◌-◌, ◌^◌, ◌⊎◌, inl, inr, refl, sym, ap, subst, ◌∙◌, arith, List, length, slice_get, Some, None, Option}
+use Rattle.std.proofs.Common.{ℕ, zero, suc, ◌≡◌, ◌≢◌, ◌<◌, ◌≤◌, ◌+◌, inl, inr, refl, sym, subst, arith, List}
 use Rattle.std.proofs.lemmas.Bool.{cases_lt}
 use Rattle.flow_rules.specs.declared.block.BasicBlock.{BasicBlock}
 use Rattle.flow_rules.specs.declared.block.Merge.{Merge}
-use Rattle.flow_rules.specs.declared.block.MergeKind.{MergeKind}
-use Rattle.flow_rules.specs.declared.block.MergeKind.TheVariants.{Selection, Loop}
-use Rattle.flow_rules.specs.Flow.{Row, In, At, Edge, Header, Selects, Loops, Switches, StructuralEdge, BackEdge, SoleBack, IsConstruct, selection, loop_construct, continue_construct, IsLoop, IsCase, CaseStart, IsRow, is_construct, is_loop, is_case, InnermostLoop, InnermostSwitch, InLoopOf, IsSwitchRow}
-use Rattle.flow_rules.specs.Rules.{BreaksEdge, s6_target, s9, s10, s11, BreaksMerge, s4, s5_before, s5_behind, s6, s7, s8_outside, Cross, MayLeave, to_loop_merge, to_continue, to_switch_merge, to_header}
-use Rattle.flow_rules.specs.Lists.{FirstEnd, LastOver, LeastFirst, SpanOf, HeaderOf, BodyOf, ContinueOf, LoopOf, SelectionOf, SwitchOf, CaseOf, CaseFrom, NestedOf, nested_header, nested_body, nested_case, RowOf, row_nested, row_continue, LeftOf, left_selection, left_continue}
-use Rattle.flow_rules.proofs.Blocks.{Compared, is_less, is_same, is_more, compared, merge_same, header_same, loops_same}
-use Rattle.flow_rules.proofs.Crossing.{RowWith, whole, IsNarrow, header_row, nested_row}
+use Rattle.flow_rules.specs.Flow.{Row, In, Loops, selection, loop_construct, continue_construct, IsRow, is_construct, is_loop, is_case, InnermostLoop, InnermostSwitch, IsSwitchRow}
+use Rattle.flow_rules.specs.Rules.{BreaksEdge, s9}
+use Rattle.flow_rules.specs.Lists.{FirstEnd, LastOver, SpanOf, LoopOf, SwitchOf, nested_header, nested_body, nested_case, RowOf, row_nested, row_continue}
+use Rattle.flow_rules.proofs.Crossing.{RowWith, whole, nested_row}
 
 module _ (bs : List BasicBlock) where
   -- ---- S9

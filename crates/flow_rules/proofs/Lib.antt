@@ -11,4 +11,5 @@ pub mod Listing
 pub mod Merging
 pub mod Numbers
 pub mod Parts
+pub mod Regularity
 pub mod Starts

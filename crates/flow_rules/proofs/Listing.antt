@@ -1,5 +1,5 @@
 -- How lists of spans grow.
-use Rattle.std.proofs.Common.{ℕ, zero, suc, ◌≡◌, ◌≢◌, ◌<◌, ◌≤◌, ◌+◌, ◌-◌, ◌⊎◌, inl, inr, refl, sym, ap, subst, ◌∙◌, arith, List, [], ◌∷◌, ◌++◌, length, get_or, take, slice_get, Some, None, Option}
+use Rattle.std.proofs.Common.{ℕ, ◌≡◌, ◌<◌, ◌≤◌, ◌+◌, ◌⊎◌, inl, inr, refl, sym, subst, ◌∙◌, arith, List, [], ◌∷◌, ◌++◌, length, get_or, take, Some, None, Option}
 use Rattle.std.proofs.lemmas.Bool.{cases_lt}
 use Rattle.std.proofs.lemmas.List.{take_more}
 use Rattle.std.proofs.lemmas.List.Elements.{Contains-push, Contains-append_left, Contains-push_cases}
@@ -12,8 +12,8 @@ use Rattle.std.specs.List.Sorted.{IsSorted, IsPermutation}
 use Rattle.std.proofs.lemmas.List.Sorted.{Contains-permutation, IsPermutation-sym, IsNonDecreasingBy-from_sort}
 use Rattle.flow_rules.specs.declared.block.BasicBlock.{BasicBlock}
 use Rattle.flow_rules.specs.declared.block.Terminator.TheVariants.{Switch}
-use Rattle.flow_rules.specs.Flow.{At, Switches, Selects}
-use Rattle.flow_rules.specs.Lists.{Extends, IsSpanOf, with_span, TargetOf, BackTarget, BackSource, CaseAt, CasesTo, FromSpan, SelectionOf, SwitchOf, IsBetween, BetweenStep, Between}
+use Rattle.flow_rules.specs.Flow.{At}
+use Rattle.flow_rules.specs.Lists.{Extends, IsSpanOf, with_span, TargetOf, BackTarget, BackSource, CaseAt, CasesTo, SelectionOf, SwitchOf, IsBetween, BetweenStep, Between}
 use Rattle.flow_rules.proofs.Blocks.{at_same}
 use Rattle.flow_rules.proofs.Cases.{contains_none}
 

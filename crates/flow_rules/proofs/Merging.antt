@@ -1,13 +1,13 @@
 -- The least rule that is broken at a place, by asking one after the other.
-use Rattle.std.proofs.Common.{ℕ, zero, suc, ◌≡◌, ◌≢◌, ◌<◌, ◌≤◌, ◌+◌, ◌⊎◌, inl, inr, refl, sym, ap, subst, ◌∙◌, arith, List, length, Option, Some, None, Bool, true, false}
+use Rattle.std.proofs.Common.{ℕ, ◌≡◌, ◌<◌, ◌≤◌, ◌+◌, inl, inr, subst, arith, List, Some, None}
 use Rattle.std.proofs.lemmas.Bool.{cases_lt}
 use Rattle.flow_rules.specs.declared.block.BasicBlock.{BasicBlock}
 use Rattle.flow_rules.specs.declared.block.Merge.{Merge}
 use Rattle.flow_rules.specs.declared.block.MergeKind.TheVariants.{Selection, Loop}
-use Rattle.flow_rules.specs.Flow.{Row, At, Header, Loops, SoleBack}
-use Rattle.flow_rules.specs.Rules.{Suits, Strays, Merges, BreaksMerge, s2_stray, s2_kind, s3, s4, s5_before, s5_behind, s6, s7, s8_outside, s8_leaves}
-use Rattle.flow_rules.specs.Answers.{Tells, RuleAnswer, NoneBelow, IsTidy}
-use Rattle.flow_rules.proofs.Blocks.{at_same, header_same, loops_same}
+use Rattle.flow_rules.specs.Flow.{At, Header, Loops, SoleBack}
+use Rattle.flow_rules.specs.Rules.{Suits, BreaksMerge, s2_stray, s2_kind, s3, s4, s5_before, s5_behind, s6, s7, s8_outside, s8_leaves}
+use Rattle.flow_rules.specs.Answers.{RuleAnswer, NoneBelow, IsTidy}
+use Rattle.flow_rules.proofs.Blocks.{at_same, loops_same}
 
 module _ (B : ℕ → Type 0) where
   pub none_more : (n : ℕ) → NoneBelow B n → (B n → ⊥) → NoneBelow B (n + 1)

@@ -1,19 +1,19 @@
 -- The tables tell of the blocks what they tell of the lists of spans.
-use Rattle.std.proofs.Common.{ℕ, zero, suc, ◌≡◌, ◌≢◌, ◌<◌, ◌≤◌, ◌+◌, ◌-◌, ◌^◌, max, ◌⊎◌, inl, inr, refl, sym, ap, subst, ◌∙◌, arith, List, [], ◌∷◌, ◌++◌, length, get_or, take, Option, Some, None, slice_get, length-append}
+use Rattle.std.proofs.Common.{ℕ, ◌≡◌, ◌<◌, ◌+◌, ◌-◌, ◌^◌, max, inl, inr, refl, sym, ap, subst, ◌∙◌, arith, List, [], ◌∷◌, ◌++◌, length, get_or, take, length-append}
 use Rattle.std.proofs.lemmas.Bool.{cases_lt}
 use Rattle.std.proofs.lemmas.Grind.{common_steps}
 use Rattle.std.specs.List.{Contains}
 use Rattle.std.specs.Ordering.{ord_max, nat_cmp}
 use Rattle.flow_scans.specs.declared.span.Span.{Span}
-use Rattle.flow_scans.specs.Spans.{Has, Below, IsLeastFirst, IsGreatestEnd, IsFirstEnd, IsLastOver, AreLeastFirsts, AreGreatestEnds, AreFirstEnds, AreLastOvers}
+use Rattle.flow_scans.specs.Spans.{Below, IsLeastFirst, IsGreatestEnd, IsFirstEnd, IsLastOver, AreLeastFirsts, AreGreatestEnds, AreFirstEnds, AreLastOvers}
 use Rattle.flow_rules.specs.declared.block.BasicBlock.{BasicBlock}
 use Rattle.flow_rules.specs.declared.block.Merge.{Merge}
 use Rattle.flow_rules.specs.declared.lists.Family.{Family}
 use Rattle.flow_rules.specs.declared.lists.Family.TheVariants.{Edges, Headers, Backs, Returns, Nested, Rows, Lefts, Bodies, Loops as AllLoops, Switches as AllSwitches, CaseFroms}
-use Rattle.flow_rules.specs.Flow.{At, Edge, Header, Loops, Selects, Switches, CaseStart, IsCase, StructuralEdge, by_branch, by_merge, by_continue, BackEdge}
+use Rattle.flow_rules.specs.Flow.{At, Header, by_branch, by_merge, by_continue}
 use Rattle.flow_rules.specs.Rules.{IsNumbered}
-use Rattle.flow_rules.specs.Lists.{Lists, SpanOf, LeastFirst, GreatestEnd, FirstEnd, LastOver, LeastTable, GreatestTable, EndTable, OverTable, HeaderOf, BodyOf, ContinueOf, LoopOf, SelectionOf, SwitchOf, CaseOf, CaseFrom, NestedOf, nested_header, nested_body, nested_case, RowOf, row_nested, row_continue, LeftOf, left_selection, left_continue, EdgeOf, BackOf, BackTo, OfFamily, HighTo, IsLowTo, IsHigh, IsLow}
-use Rattle.flow_rules.proofs.Blocks.{at_same, at_below}
+use Rattle.flow_rules.specs.Lists.{Lists, SpanOf, LeastFirst, GreatestEnd, FirstEnd, LastOver, LeastTable, GreatestTable, EndTable, OverTable, HeaderOf, BodyOf, ContinueOf, CaseOf, NestedOf, nested_header, nested_body, nested_case, row_nested, row_continue, left_selection, left_continue, OfFamily, HighTo, IsLowTo}
+use Rattle.flow_rules.proofs.Blocks.{at_same}
 use Rattle.flow_rules.proofs.Listing.{taken_none, taken_cases, taken_old, taken_new}
 use Rattle.flow_rules.proofs.Parts.{family_within}
 

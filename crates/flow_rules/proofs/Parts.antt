@@ -1,17 +1,16 @@
 -- The spans of a block, family by family.
-use Rattle.std.proofs.Common.{ℕ, zero, suc, ◌≡◌, ◌≢◌, ◌<◌, ◌≤◌, ◌+◌, ◌⊎◌, inl, inr, refl, sym, ap, subst, ◌∙◌, arith, List, [], ◌∷◌, length, get_or, Option, Some, None, slice_get}
+use Rattle.std.proofs.Common.{ℕ, ◌≡◌, ◌<◌, ◌≤◌, ◌+◌, ◌⊎◌, inl, inr, sym, subst, ◌∙◌, arith, List, [], length, get_or, Option}
 use Rattle.std.proofs.lemmas.Bool.{cases_lt}
 use Rattle.std.specs.List.{Contains}
 use Rattle.flow_scans.specs.declared.span.Span.{Span}
-use Rattle.flow_scans.specs.Spans.{Has}
 use Rattle.flow_rules.specs.declared.block.BasicBlock.{BasicBlock}
 use Rattle.flow_rules.specs.declared.block.Merge.{Merge}
 use Rattle.flow_rules.specs.declared.lists.Family.{Family}
 use Rattle.flow_rules.specs.declared.lists.Family.TheVariants.{Edges, Headers, Backs, Returns, Nested, Rows, Lefts, Bodies, Loops as AllLoops, Switches as AllSwitches, CaseFroms}
-use Rattle.flow_rules.specs.Flow.{At, Edge, Header, Loops, Selects, Switches, CaseStart, IsCase, StructuralEdge, by_branch, by_merge, by_continue, BackEdge}
-use Rattle.flow_rules.specs.Lists.{Lists, ListsTo, SpanOf, Extends, IsSpanOf, with_span, TargetOf, BackTarget, BackSource, Starts, CasesTo, FromSpan, HeaderOf, BodyOf, ContinueOf, LoopOf, SelectionOf, SwitchOf, CaseOf, CaseFrom, NestedOf, nested_header, nested_body, nested_case, RowOf, row_nested, row_continue, LeftOf, left_selection, left_continue, EdgeOf, BackOf, BackTo, OfFamily}
+use Rattle.flow_rules.specs.Flow.{At, Edge, Header, StructuralEdge, by_branch, by_merge, by_continue}
+use Rattle.flow_rules.specs.Lists.{Lists, ListsTo, SpanOf, Extends, IsSpanOf, with_span, TargetOf, BackTarget, BackSource, Starts, CasesTo, FromSpan, HeaderOf, BodyOf, ContinueOf, SelectionOf, CaseFrom, NestedOf, nested_header, nested_body, nested_case, RowOf, row_nested, row_continue, LeftOf, left_selection, left_continue, EdgeOf, BackOf, BackTo, OfFamily}
 use Rattle.flow_rules.proofs.Blocks.{at_same, at_below}
-use Rattle.flow_rules.proofs.Listing.{extends_same, extends_both, extends_span, extends_none}
+use Rattle.flow_rules.proofs.Listing.{extends_same, extends_both, extends_span}
 use Rattle.flow_rules.proofs.Starts.{case_sound, case_complete, from_sound, from_complete}
 
 module _ (bs : List BasicBlock) (p : ℕ) where

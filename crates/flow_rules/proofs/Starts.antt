@@ -1,13 +1,13 @@
 -- The case constructs of a switch, by its starts in order.
-use Rattle.std.proofs.Common.{ℕ, zero, suc, ◌≡◌, ◌≢◌, ◌<◌, ◌≤◌, ◌+◌, ◌⊎◌, inl, inr, refl, sym, ap, subst, ◌∙◌, arith, List, [], ◌∷◌, length, get_or, Option, Some, None}
+use Rattle.std.proofs.Common.{ℕ, zero, suc, ◌≡◌, ◌≢◌, ◌<◌, ◌≤◌, ◌+◌, ◌⊎◌, inl, inr, refl, sym, ap, subst, ◌∙◌, arith, List, [], ◌∷◌, length, get_or, Some, None}
 use Rattle.std.proofs.lemmas.Bool.{cases_lt, cases_eq}
 use Rattle.std.proofs.lemmas.List.Elements.{Contains-get_or}
 use Rattle.std.specs.List.{Contains}
 use Rattle.flow_scans.specs.declared.span.Span.{Span}
 use Rattle.flow_rules.specs.declared.block.BasicBlock.{BasicBlock}
 use Rattle.flow_rules.specs.declared.block.Merge.{Merge}
-use Rattle.flow_rules.specs.Flow.{Row, At, Edge, Header, Switches, CaseStart, IsCase}
-use Rattle.flow_rules.specs.Lists.{Extends, IsSpanOf, with_span, SwitchOf, Between, Starts, CaseAt, CasesTo, FromSpan, CaseOf, CaseFrom}
+use Rattle.flow_rules.specs.Flow.{At, CaseStart}
+use Rattle.flow_rules.specs.Lists.{IsSpanOf, SwitchOf, Between, Starts, CasesTo, FromSpan, CaseOf, CaseFrom}
 use Rattle.flow_rules.proofs.Blocks.{at_same, header_same}
 use Rattle.flow_rules.proofs.Cases.{contains_none, same_start}
 

@@ -1,5 +1,5 @@
 -- What the check of the blocks answers, and its parts.
-use Rattle.std.specs.Prelude.{ℕ, ◌≡◌, ◌+◌, ◌<◌, ◌≤◌, List, Option, Some, None, Result, Ok, Err, Bool, true, false, Contains, take, slice_get, min, ◌∷◌, []}
+use Rattle.std.specs.Prelude.{ℕ, ◌≡◌, ◌+◌, ◌<◌, ◌≤◌, List, Option, Some, None, Result, Ok, Err, Bool, true, false, Contains, slice_get, min, ◌∷◌, []}
 use Rattle.flow_scans.specs.declared.span.Span.{Span}
 use Rattle.dx_base.specs.First.{IsFirst, IsSound}
 use Rattle.spv_form.specs.declared.fault.CheckFault.{CheckFault}
@@ -8,7 +8,7 @@ use Rattle.spv_form.specs.declared.fault.WordRule.TheVariants.{S}
 use Rattle.flow_rules.specs.declared.block.BasicBlock.{BasicBlock}
 use Rattle.flow_rules.specs.declared.block.Merge.{Merge}
 use Rattle.flow_rules.specs.declared.check.Fault.{Fault}
-use Rattle.flow_rules.specs.Flow.{Row, In, At, Edge, Header, Loops, Switches, SoleBack}
+use Rattle.flow_rules.specs.Flow.{Row, Loops, Switches, SoleBack}
 use Rattle.flow_rules.specs.Rules.{Strays, Escapes, BreaksMerge, BreaksEdge, Broken, IsClear, IsMergeClear}
 
 -- Nothing is broken, or the first broken rule, or want of memory.

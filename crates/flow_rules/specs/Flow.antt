@@ -1,11 +1,9 @@
 -- The edges and constructs of a function's blocks (SPIR-V 1.6, section 2.11). A block is named by its number in word order.
-use Rattle.std.specs.Prelude.{ℕ, ◌≡◌, ◌<◌, ◌≤◌, List, slice_get, Option, Some, Contains, ◌⊎◌}
+use Rattle.std.specs.Prelude.{ℕ, ◌≡◌, ◌<◌, ◌≤◌, List, slice_get, Some, Contains, ◌⊎◌}
 use Rattle.flow_rules.specs.declared.block.BasicBlock.{BasicBlock}
 use Rattle.flow_rules.specs.declared.block.Merge.{Merge}
-use Rattle.flow_rules.specs.declared.block.MergeKind.{MergeKind}
 use Rattle.flow_rules.specs.declared.block.MergeKind.TheVariants.{Selection, Loop}
-use Rattle.flow_rules.specs.declared.block.Terminator.{Terminator}
-use Rattle.flow_rules.specs.declared.block.Terminator.TheVariants.{Branch, BranchConditional, Switch, Return}
+use Rattle.flow_rules.specs.declared.block.Terminator.TheVariants.{Switch}
 
 -- A row of blocks that a header makes by its merge instruction: from its first block up to its end, which is not in it. It has no block where
 -- the end does not stand after the first block.

@@ -1,4 +1,5 @@
 pub mod Answers
 pub mod Flow
 pub mod Lists
+pub mod Regular
 pub mod Rules

@@ -9,7 +9,7 @@ use Rattle.flow_rules.specs.declared.tables.Tables.{Tables}
 use Rattle.flow_rules.specs.declared.lists.Family.{Family}
 use Rattle.flow_rules.specs.declared.lists.Family.TheVariants.{Edges, Headers, Backs, Returns, Nested, Rows, Lefts, Bodies, CaseFroms}
 use Rattle.flow_rules.specs.declared.lists.Family.TheVariants.{Loops as AllLoops, Switches as AllSwitches}
-use Rattle.flow_rules.specs.Flow.{Row, At, Edge, Header, Selects, Loops, Switches, StructuralEdge, BackEdge, CaseStart, IsCase}
+use Rattle.flow_rules.specs.Flow.{At, Header, Selects, Loops, Switches, StructuralEdge, BackEdge, CaseStart, IsCase}
 
 -- the list has exactly the spans of which P tells
 pub record Lists (P : ℕ → ℕ → Type 0) (spans : List Span) : Type 0 where

@@ -1,13 +1,13 @@
 -- The structure rules, S1 to S12: which of them is broken, at which word. Where several are, the one of least word counts, and at one word the one of
 -- least number.
-use Rattle.std.specs.Prelude.{ℕ, ◌≡◌, ◌≢◌, ◌+◌, ◌<◌, ◌≤◌, List, [], ◌∷◌, length, Option, Some, None, Contains, ◌⊎◌, slice_get}
+use Rattle.std.specs.Prelude.{ℕ, ◌≡◌, ◌≢◌, ◌<◌, ◌≤◌, List, [], ◌∷◌, length, Some, None, Contains, ◌⊎◌, slice_get}
 use Rattle.flow_rules.specs.declared.block.BasicBlock.{BasicBlock}
 use Rattle.flow_rules.specs.declared.block.Merge.{Merge}
 use Rattle.flow_rules.specs.declared.block.MergeKind.{MergeKind}
 use Rattle.flow_rules.specs.declared.block.MergeKind.TheVariants.{Selection, Loop}
 use Rattle.flow_rules.specs.declared.block.Terminator.{Terminator}
 use Rattle.flow_rules.specs.declared.block.Terminator.TheVariants.{Branch, BranchConditional, Switch, Return}
-use Rattle.flow_rules.specs.Flow.{Row, In, At, Edge, Header, Selects, Loops, StructuralEdge, BackEdge, SoleBack, IsConstruct, IsLoop, IsCase, IsRow, InnermostLoop, InnermostSwitch}
+use Rattle.flow_rules.specs.Flow.{Row, In, At, Edge, Header, Loops, StructuralEdge, SoleBack, IsConstruct, IsCase, IsRow, InnermostLoop, InnermostSwitch}
 
 -- a SelectionMerge stands before a BranchConditional or Switch, a LoopMerge before a Branch or BranchConditional
 pub data Suits : MergeKind → Terminator → Type 0 where

@@ -8,3 +8,6 @@ mod tables;
 
 pub use block::{BasicBlock, BlockList, Merge, MergeKind, MergeList, Terminator};
 pub use check::check_flow;
+
+#[cfg(test)]
+mod tests;

@@ -1,9 +1,8 @@
 -- How the tables grow span by span.
-use Rattle.std.proofs.Common.{ℕ, ◌≡◌, ◌≢◌, ◌<◌, ◌≤◌, ◌+◌, ◌-◌, ◌^◌, ◌⊎◌, ◌∷◌, ◌++◌, [], inl, inr, refl, sym, ap, subst, ◌∙◌, arith, List, length, take, get_or, set, replicate, get_or-set_other, get_or-set_same}
+use Rattle.std.proofs.Common.{ℕ, ◌≡◌, ◌≢◌, ◌<◌, ◌≤◌, ◌+◌, ◌-◌, ◌^◌, ◌⊎◌, ◌∷◌, ◌++◌, [], inl, inr, sym, ap, subst, ◌∙◌, arith, List, length, take, get_or, set, replicate, get_or-set_other, get_or-set_same}
 use Rattle.std.proofs.lemmas.Bool.{cases_lt}
 use Rattle.std.proofs.lemmas.List.{take_more, get_or-replicate}
 use Rattle.std.proofs.lemmas.List.Elements.{Contains-push, Contains-append_left, Contains-push_cases, Contains-get_or}
-use Rattle.std.specs.List.{Contains}
 use Rattle.flow_scans.specs.declared.span.Span.{Span}
 use Rattle.flow_scans.specs.Spans.{Has, Below, IsLeastFirst, IsGreatestEnd, IsFirstEnd, IsLastOver, FirstBehind, LastBefore, LastHolding, AreLeastFirsts, AreGreatestEnds, LowerStep, UpperStep}
 
@@ -163,3 +162,15 @@ last_holder_of spans count far q found below are inside z = record {
     | inr most ↦ absurd (let none : get_or far f 0 ≤ q = z.none f most (omega arith) in let greatest : e ≤ get_or far f 0 = (are f (below.first f e h)).greatest e h in omega arith)
   ];
 }
+
+pub below_none : (spans : List Span) (count : ℕ) → Below count (take 0 spans)
+below_none spans count = record { first = λ f e h. absurd (none spans f e h); end = λ f e h. absurd (none spans f e h) } where
+  none : (xs : List Span) (f e : ℕ) → Has (take 0 xs) f e → ⊥
+  none [] f e h = has_empty f e h
+  none (x ∷ xs) f e h = has_empty f e h
+
+pub below_more : (spans : List Span) (i count : ℕ) (d : Span) → i < length spans → Below count (take i spans) → (get_or spans i d).first < count → (get_or spans i d).end < count → Below count (take (i + 1) spans)
+below_more spans i count d inside b first end = rw (take_more spans i d inside) (record {
+  first = λ f e h. elim (has_cases (take i spans) (get_or spans i d) f e h) [ inl old ↦ b.first f e old | inr (a, c) ↦ omega arith ];
+  end = λ f e h. elim (has_cases (take i spans) (get_or spans i d) f e h) [ inl old ↦ b.end f e old | inr (a, c) ↦ omega arith ];
+})

@@ -1,5 +1,5 @@
 -- The levels of the greatest numbers.
-use Rattle.std.proofs.Common.{ℕ, ◌≡◌, ◌≢◌, ◌<◌, ◌≤◌, ◌+◌, ◌-◌, ◌*◌, ◌^◌, ◌⊎◌, ◌∷◌, ◌++◌, [], inl, inr, refl, sym, ap, subst, ◌∙◌, arith, List, length, get_or, length-append}
+use Rattle.std.proofs.Common.{ℕ, ◌≡◌, ◌<◌, ◌≤◌, ◌+◌, ◌*◌, ◌⊎◌, ◌∷◌, ◌++◌, [], inl, inr, refl, sym, ap, subst, ◌∙◌, arith, List, length, get_or, length-append}
 use Rattle.std.proofs.lemmas.Bool.{cases_lt}
 use Rattle.std.proofs.lemmas.Grind.{common_steps}
 use Rattle.flow_scans.specs.declared.range.Level.{Level}

@@ -1,5 +1,5 @@
 -- The greatest numbers of the ranges of a list.
-use Rattle.std.specs.Prelude.{ℕ, ◌≡◌, ◌+◌, ◌-◌, ◌*◌, ◌<◌, ◌≤◌, ◌^◌, List, length, slice_index, slice_index_or}
+use Rattle.std.specs.Prelude.{ℕ, ◌≡◌, ◌+◌, ◌*◌, ◌<◌, ◌≤◌, List, length, slice_index, slice_index_or}
 use Rattle.flow_scans.specs.declared.range.Level.{Level}
 
 -- a number of the range from `from` on and before `to` is above the bound

@@ -6,3 +6,6 @@ mod span;
 
 pub use range::RangeMax;
 pub use span::{Span, first_ends, greatest_ends, last_holders, last_overs, least_firsts};
+
+#[cfg(test)]
+mod tests;

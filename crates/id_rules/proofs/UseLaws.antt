@@ -1,11 +1,11 @@
 -- Whether an instruction uses an id that it may not use.
-use Rattle.std.proofs.Common.{ℕ, ◌≡◌, ◌≢◌, ◌<◌, ◌≤◌, ◌↔◌, IsTrue, refl, sym, ap, subst, ◌∙◌, arith, List, length, get_or, Option, Some, None, Bool, true, false, eqb}
+use Rattle.std.proofs.Common.{ℕ, ◌≡◌, ◌≢◌, ◌<◌, ◌≤◌, ◌↔◌, IsTrue, refl, sym, ap, subst, ◌∙◌, arith, List, length, Option, Some, None, Bool, true, false, eqb}
 use Rattle.std.proofs.lemmas.Bool.{eq-eqb, eqb-true}
 use Rattle.spv_form.specs.declared.shape.Shape.{Shape}
 use Rattle.spv_form.specs.declared.module.Inst.{Inst}
 use Rattle.spv_form.specs.Shapes.{shape_of}
 use Rattle.spv_form.specs.Operands.{is_id}
-use Rattle.spv_ids.specs.Roles.{operand, result_place, Uses}
+use Rattle.spv_ids.specs.Roles.{operand, result_place}
 use Rattle.spv_ids.specs.Places.{is_there}
 use Rattle.id_rules.specs.Uses.{is_misused, Misuses}
 

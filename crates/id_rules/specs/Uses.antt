@@ -1,5 +1,5 @@
 -- V3 and V4: definitions and uses of ids.
-use Rattle.std.specs.Prelude.{ℕ, ◌≡◌, ◌<◌, ◌==◌, ◌||◌, ◌&&◌, nat_le, nat_lt, not, List, length, get_or, slice_get, Bool, true, false, Option}
+use Rattle.std.specs.Prelude.{ℕ, ◌≡◌, ◌<◌, ◌==◌, ◌||◌, ◌&&◌, nat_le, nat_lt, not, List, length, get_or, slice_get, Bool, true, false}
 use Rattle.std.specs.Option.{option_map_or}
 use Rattle.spv_form.specs.declared.module.Inst.{Inst}
 use Rattle.spv_ids.specs.Roles.{operand, result_of, defines, Uses}

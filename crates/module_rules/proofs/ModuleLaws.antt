@@ -1,8 +1,8 @@
 -- The first rule that a module breaks, asked instruction by instruction.
-use Rattle.std.proofs.Common.{ℕ, zero, suc, ◌≡◌, ◌+◌, ◌-◌, ◌<◌, ◌≤◌, ◌^◌, ◌⊎◌, inl, inr, refl, sym, ap, subst, ◌∙◌, arith, List, [], ◌∷◌, length, take, take_all, add-zero, sum_by, get_or, slice_get, Option, Some, None, Result, Ok, Err, min}
+use Rattle.std.proofs.Common.{ℕ, zero, suc, ◌≡◌, ◌+◌, ◌-◌, ◌<◌, ◌≤◌, ◌^◌, ◌⊎◌, inl, inr, refl, sym, ap, subst, ◌∙◌, arith, List, [], ◌∷◌, length, take_all, add-zero, sum_by, slice_get, Some, None, Result, Ok, Err, min}
 use Rattle.std.proofs.lemmas.Bool.{cases_lt}
 use Rattle.std.proofs.lemmas.List.Sums.{sum_by_more, sum_by-cons}
-use Rattle.std.proofs.lemmas.Option.{slice_get_within, slice_get-get_or, same_Some, get_or_from_slice_get}
+use Rattle.std.proofs.lemmas.Option.{slice_get_within, same_Some, get_or_from_slice_get}
 use Rattle.dx_base.specs.First.{IsFirst, IsSound}
 use Rattle.spv_form.specs.declared.module.Inst.{Inst}
 use Rattle.spv_form.specs.declared.module.Module.{Module}
@@ -12,7 +12,7 @@ use Rattle.spv_form.specs.declared.fault.WordRule.TheVariants.{W, V, S}
 use Rattle.spv_form.specs.Words.{size_of, start_of}
 use Rattle.spv_ids.proofs.PlaceLaws.{nothing}
 use Rattle.module_rules.specs.Rules.{Breaks, Misses, Broken}
-use Rattle.module_rules.specs.Answers.{IsUnbroken, Finds, FindsMissing, AtStart, IsLeastAtStart, BrokenBy, EachAnswer, RulesAnswer}
+use Rattle.module_rules.specs.Answers.{Finds, FindsMissing, AtStart, IsLeastAtStart, BrokenBy, EachAnswer, RulesAnswer}
 use Rattle.module_rules.proofs.RuleLaws.{numbered}
 
 -- ---- words

@@ -3,7 +3,6 @@ use Rattle.std.proofs.Common.{ℕ, ◌≡◌, ◌+◌, ◌<◌, ◌≤◌, ◌�
 use Rattle.std.proofs.lemmas.Bool.{cases_lt, eqb-true, eq-eqb}
 use Rattle.std.proofs.lemmas.Option.{slice_get_within, slice_get-get_or, same_Some}
 use Rattle.spv_form.specs.declared.module.Inst.{Inst}
-use Rattle.spv_form.specs.Formed.{IsFormedInst}
 use Rattle.spv_ids.specs.Places.{is_there}
 use Rattle.order_rules.specs.Order.{OutOfOrder, IsThePlace}
 use Rattle.order_rules.specs.Once.{is_wrong_once, is_placed, has, has_four}
@@ -13,7 +12,6 @@ use Rattle.id_rules.specs.Again.{IsDeclaredAgain, AreFormed}
 use Rattle.type_rules.specs.Types.{is_listed}
 use Rattle.type_rules.specs.Fits.{fits}
 use Rattle.decoration_rules.specs.Variables.{is_sound}
-use Rattle.decoration_rules.specs.ReadOnly.{IsReadOnly, written_by}
 use Rattle.module_rules.specs.Entry.{is_wrong_interface, is_wrong_entry, is_wrong_size, has_many_pairs}
 use Rattle.module_rules.specs.Rules.{Breaks, Misses}
 use Rattle.module_rules.specs.Answers.{IsUnbroken, Finds, FindsMissing, Writes, IsWriteAnswer}

@@ -4,5 +4,7 @@
 mod check;
 mod entry;
 mod tables;
+#[cfg(test)]
+mod tests;
 
 pub use check::check_rules;

@@ -1,7 +1,7 @@
 -- V2 and V11: the instructions that stand exactly once, and the place of variables.
-use Rattle.std.specs.Prelude.{ℕ, ◌≡◌, ◌+◌, ◌-◌, ◌==◌, ◌||◌, ◌&&◌, nat_lt, nat_le, not, List, length, drop, Bool, true, false, Option, Some, None, IfSome, option_and_then, ◌<◌, position, if◌then◌else◌}
+use Rattle.std.specs.Prelude.{ℕ, ◌≡◌, ◌+◌, ◌-◌, ◌==◌, ◌||◌, ◌&&◌, nat_lt, nat_le, not, List, length, drop, Bool, true, false, Option, IfSome, option_and_then, ◌<◌, position, if◌then◌else◌}
 use Rattle.std.specs.List.{list_any}
-use Rattle.std.specs.Option.{option_map_or, is_some}
+use Rattle.std.specs.Option.{option_map_or}
 use Rattle.spv_form.specs.declared.module.Inst.{Inst}
 use Rattle.spv_ids.specs.Roles.{operand}
 use Rattle.spv_ids.specs.Places.{is_op, stands_before}

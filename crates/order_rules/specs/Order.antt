@@ -1,5 +1,5 @@
 -- V1: the order of a module's instructions.
-use Rattle.std.specs.Prelude.{ℕ, ◌≡◌, ◌==◌, ◌||◌, ◌&&◌, nat_le, not, List, take, slice_get, Bool, true, false, Option, Some, None, option_and_then, if◌then◌else◌}
+use Rattle.std.specs.Prelude.{ℕ, ◌≡◌, ◌==◌, ◌||◌, nat_le, List, take, slice_get, Bool, Option, Some, None, option_and_then, if◌then◌else◌}
 use Rattle.std.specs.List.{fold}
 use Rattle.spv_form.specs.declared.module.Inst.{Inst}
 use Rattle.spv_ids.specs.Roles.{operand}

@@ -1,11 +1,11 @@
 -- What a table of first definitions has after one instruction more.
-use Rattle.std.proofs.Common.{ℕ, ◌≡◌, ◌+◌, ◌<◌, ◌≤◌, ◌⊎◌, inl, inr, refl, sym, ap, subst, ◌∙◌, arith, List, [], ◌∷◌, ◌++◌, length, take, get_or, Option, Some, None, Bool, true, false, cond, eqb, ltb, not, take_all}
+use Rattle.std.proofs.Common.{ℕ, ◌≡◌, ◌+◌, ◌<◌, ◌≤◌, refl, sym, ap, subst, ◌∙◌, arith, List, [], ◌∷◌, ◌++◌, length, take, get_or, Option, Some, None, Bool, true, false, cond, eqb, not, take_all}
 use Rattle.std.proofs.lemmas.Grind.{common_steps}
 use Rattle.std.proofs.lemmas.Bool.{eqb-true}
 use Rattle.std.proofs.lemmas.List.{take_more, length_push}
 use Rattle.std.proofs.lemmas.List.Sums.{prefix_len-le-length}
 use Rattle.std.proofs.lemmas.List.Folds.{position_or_len_push}
-use Rattle.std.specs.List.{position, position_or_len}
+use Rattle.std.specs.List.{position}
 use Rattle.std.specs.Option.{option_or, is_some}
 use Rattle.spv_form.specs.declared.module.Inst.{Inst}
 use Rattle.spv_ids.specs.Roles.{defines, result_of}
@@ -57,8 +57,8 @@ kept_more old new insts at x so_far h is k id =
     k.kept id ∙ ap (λ o. option_or o (cond (p x) (Some at) None)) (so_far id)
     ∙ ap (λ n. option_or (position p (take at insts)) (cond (p x) (Some n) None)) (size at insts h)
     ∙ sym (position_push p (take at insts) x) ∙ ap (position p) (sym cut) where
-  size : (n : ℕ) (xs : List Inst) → n < length xs → n ≡ length (take n xs)
-  size n xs l = grind (arith, common_steps)
+      size : (n : ℕ) (xs : List Inst) → n < length xs → n ≡ length (take n xs)
+      size n xs l = grind (arith, common_steps)
 
 pub kept_all : (first : ℕ → Option ℕ) (insts : List Inst) (at : ℕ) → ((id : ℕ) → first id ≡ definer (take at insts) id) → length insts ≤ at → (id : ℕ) → first id ≡ definer insts id
 kept_all first insts at so_far h id = so_far id ∙ ap (λ xs. definer xs id) (take_all at insts h)

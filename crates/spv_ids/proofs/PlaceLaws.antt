@@ -1,5 +1,5 @@
 -- What the first place of an instruction says of those before a place.
-use Rattle.std.proofs.Common.{ℕ, zero, suc, ◌≡◌, ◌≢◌, ◌+◌, ◌<◌, ◌≤◌, ◌&&◌, ◌||◌, ◌⊎◌, inl, inr, refl, sym, ap, ◌∙◌, arith, List, [], ◌∷◌, length, take, get_or, Option, Some, None, Bool, true, false, cond, ltb, not}
+use Rattle.std.proofs.Common.{ℕ, suc, ◌≡◌, ◌<◌, inl, inr, refl, sym, ◌∙◌, arith, List, [], ◌∷◌, length, take, get_or, Option, Some, None, Bool, true, false, ltb}
 use Rattle.std.proofs.lemmas.Bool.{cases_lt}
 use Rattle.std.proofs.lemmas.Grind.{common_steps}
 use Rattle.std.proofs.lemmas.List.Quantifiers.{position-Some}

@@ -1,5 +1,5 @@
 -- Where instructions stand among those of a module.
-use Rattle.std.specs.Prelude.{ℕ, ◌==◌, nat_lt, List, take, Option, Bool, false, position, count_by}
+use Rattle.std.specs.Prelude.{ℕ, ◌==◌, nat_lt, List, take, Option, Bool, false, count_by}
 use Rattle.std.specs.Option.{option_map_or}
 use Rattle.std.specs.List.{list_any}
 use Rattle.spv_form.specs.declared.module.Inst.{Inst}

@@ -16,7 +16,9 @@ pub fn result_place(shape: Shape) -> Option<usize>
 {
     match shape {
         Shape::Plain {
-            has_type, has_id, ..
+            has_type,
+            has_id,
+            ..
         } => {
             if has_id {
                 Some(usize::from(has_type))

@@ -1,6 +1,5 @@
 -- The second words of pairs are those at odd places.
-use Rattle.std.proofs.Common.{ℕ, zero, suc, ◌≡◌, ◌+◌, ◌%◌, ◌<◌, ◌&&◌, refl, sym, ap, ◌∙◌, arith, List, [], ◌∷◌, length, get_or, Bool, true, false}
-use Rattle.std.proofs.lemmas.Grind.{common_steps}
+use Rattle.std.proofs.Common.{ℕ, zero, suc, ◌≡◌, ◌%◌, ◌<◌, ◌&&◌, refl, arith, List, [], ◌∷◌, length, get_or, Bool, true, false}
 use Rattle.std.specs.List.{list_all}
 use Rattle.type_rules.specs.Fits.{seconds}
 

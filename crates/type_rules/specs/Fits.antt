@@ -5,7 +5,6 @@ use Rattle.std.specs.Option.{option_map_or}
 use Rattle.spv_form.specs.declared.module.Inst.{Inst}
 use Rattle.spv_form.specs.Shapes.{is_from}
 use Rattle.spv_ids.specs.Roles.{operand}
-use Rattle.spv_ids.specs.Ids.{definition}
 use Rattle.type_rules.specs.Types.{is_defined_as, is_int, is_bool}
 use Rattle.type_rules.specs.Values.{value_type, has_type, is_int_value, is_bool_value, is_constant, is_label, pointer_type, pointer_of, points_to, points_to_int, leads}
 use Rattle.type_rules.specs.declared.group.Group.{Group}

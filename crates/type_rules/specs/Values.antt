@@ -1,5 +1,5 @@
 -- What the values of a module are, by the first definitions of their ids.
-use Rattle.std.specs.Prelude.{ℕ, ◌==◌, ◌&&◌, ◌||◌, List, [], ◌∷◌, Bool, true, false, Option, Some, None, if◌then◌else◌, option_and_then}
+use Rattle.std.specs.Prelude.{ℕ, ◌==◌, ◌&&◌, List, [], ◌∷◌, Bool, false, Option, Some, None, if◌then◌else◌, option_and_then}
 use Rattle.std.specs.Option.{option_map_or}
 use Rattle.spv_form.specs.declared.module.Inst.{Inst}
 use Rattle.spv_ids.specs.Roles.{operand, type_of}

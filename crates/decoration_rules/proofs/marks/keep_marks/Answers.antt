@@ -1,6 +1,5 @@
-use Rattle.std.proofs.Common.{sym, ◌∙◌, arith, ap}
+use Rattle.std.proofs.Common.{sym, ◌∙◌, arith}
 use Rattle.std.proofs.lemmas.Grind.{common_steps}
-use Rattle.decoration_rules.specs.Decorations.{add}
 use Rattle.decoration_rules.proofs.MarkLaws.{marked_none, marked_new}
 use Rattle.decoration_rules.proofs.marks.keep_marks.Goals as goal
 

@@ -1,4 +1,4 @@
-use Rattle.std.proofs.Common.{arith, ℕ, subst, sym, length, ◌<◌, ◌≤◌, ◌≡◌, ◌+◌}
+use Rattle.std.proofs.Common.{arith, ℕ, subst, sym, length, ◌<◌}
 use Rattle.flow_rules.specs.Lists.{SpanOf, FirstEnd, LastOver, RowOf, LoopOf}
 use Rattle.flow_rules.proofs.Blocks.{at_index, at_below}
 use Rattle.flow_rules.proofs.Edges.{no_loop, back_enters_row, back_leaves_loop, back_fine}

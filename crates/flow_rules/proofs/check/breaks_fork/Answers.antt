@@ -1,6 +1,5 @@
-use Rattle.std.proofs.Common.{inl, inr}
 use Rattle.flow_rules.proofs.Deciding.{true_tells, false_tells}
-use Rattle.flow_rules.proofs.Ending.{fork_none, fork_switch, fork_doubled, fork_header, fork_open}
+use Rattle.flow_rules.proofs.Ending.{fork_switch, fork_doubled, fork_open}
 use Rattle.flow_rules.proofs.check.breaks_fork.Goals as goal
 
 pub returns-then-is_doubled : goal.returns-then-is_doubled

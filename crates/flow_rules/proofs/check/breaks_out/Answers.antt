@@ -1,4 +1,4 @@
-use Rattle.std.proofs.Common.{arith, ℕ, subst, sym, length, leb}
+use Rattle.std.proofs.Common.{ℕ, subst, sym, length, leb}
 use Rattle.flow_rules.specs.Rules.{BreaksEdge}
 use Rattle.flow_rules.specs.Lists.{SpanOf, FirstEnd, LeftOf}
 use Rattle.flow_rules.specs.Answers.{Tells}

@@ -1,8 +1,7 @@
-use Rattle.std.proofs.Common.{arith, ◌<◌, ◌≡◌, length, ℕ, List, subst, get_or}
+use Rattle.std.proofs.Common.{arith, ◌<◌, length, ℕ, List, subst, get_or}
 use Rattle.std.specs.List.{Contains}
 use Rattle.flow_rules.specs.Flow.StructuralEdge.{by_branch}
-use Rattle.flow_rules.proofs.Deciding.{true_tells, false_tells}
-use Rattle.flow_rules.proofs.Ending.{index_contains, listed_edge, closes_not, closes_first, closes_tell}
+use Rattle.flow_rules.proofs.Ending.{index_contains, listed_edge}
 use Rattle.flow_rules.proofs.check.closes_loop.Goals as goal
 
 pub closes-requires : goal.closes-requires

@@ -1,4 +1,3 @@
-use Rattle.std.proofs.Common.{refl}
 use Rattle.flow_rules.proofs.Deciding.{true_tells, false_tells}
 use Rattle.flow_rules.proofs.Edges.{end_first, end_answer}
 use Rattle.flow_rules.proofs.check.end_rule.Goals as goal

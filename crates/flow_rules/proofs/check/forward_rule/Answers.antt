@@ -1,4 +1,4 @@
-use Rattle.std.proofs.Common.{arith, ℕ, subst, sym, length}
+use Rattle.std.proofs.Common.{ℕ, subst, sym}
 use Rattle.flow_rules.specs.Lists.{SpanOf, LastOver, LeastFirst, RowOf, CaseFrom}
 use Rattle.flow_rules.proofs.Deciding.{true_tells, false_tells}
 use Rattle.flow_rules.proofs.Edges.{forward_enters_row, forward_breaks, forward_crosses, forward_fine}

@@ -1,4 +1,4 @@
-use Rattle.std.proofs.Common.{ℕ, subst, sym, arith, ltb, refl, ◌<◌, length}
+use Rattle.std.proofs.Common.{ℕ, subst, sym, arith, ltb, refl}
 use Rattle.flow_rules.specs.Flow.StructuralEdge.{by_merge}
 use Rattle.flow_rules.specs.Rules.{BreaksMerge}
 use Rattle.flow_rules.specs.Answers.{Tells}

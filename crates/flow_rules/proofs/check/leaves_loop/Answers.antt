@@ -1,4 +1,4 @@
-use Rattle.std.proofs.Common.{arith, ℕ, subst, ◌≡◌, ◌+◌, ◌-◌, ◌<◌, length, sym}
+use Rattle.std.proofs.Common.{arith, ℕ, subst, ◌≡◌, ◌+◌, ◌-◌, ◌<◌, length}
 use Rattle.flow_rules.specs.Answers.{LoopExit}
 use Rattle.flow_rules.proofs.Blocks.{at_index}
 use Rattle.flow_rules.proofs.Deciding.{true_tells, false_tells}

@@ -1,4 +1,3 @@
-use Rattle.std.proofs.Common.{arith}
 use Rattle.flow_rules.specs.Rules.{BreaksMerge}
 use Rattle.flow_rules.specs.Rules.BreaksMerge.{s5_before, s5_behind, s6}
 use Rattle.flow_rules.proofs.Blocks.{at_below}

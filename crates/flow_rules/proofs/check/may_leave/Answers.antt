@@ -1,4 +1,4 @@
-use Rattle.std.proofs.Common.{arith, ℕ, subst, sym, ◌≡◌, ◌+◌, ◌-◌, ◌<◌, ◌≤◌, length}
+use Rattle.std.proofs.Common.{arith, ℕ, subst, sym}
 use Rattle.flow_rules.specs.Lists.{SpanOf, LastOver, LoopOf, SwitchOf}
 use Rattle.flow_rules.proofs.Deciding.{true_tells, false_tells}
 use Rattle.flow_rules.proofs.Ending.{may_by_loop, may_not, may_tell, loop_within, switch_within}

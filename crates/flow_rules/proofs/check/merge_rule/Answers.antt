@@ -1,8 +1,7 @@
-use Rattle.std.proofs.Common.{arith, ℕ}
 use Rattle.flow_rules.specs.Rules.{BreaksMerge}
 use Rattle.flow_rules.specs.Answers.{NoneBelow}
 use Rattle.flow_rules.proofs.Deciding.{true_tells, false_tells}
-use Rattle.flow_rules.proofs.Merging.{none_more, answer_some, merge_first, not_suited, suited, not_ahead, ahead, the_header, the_loop, selection_5, selection_answer, selection_end}
+use Rattle.flow_rules.proofs.Merging.{none_more, answer_some, merge_first, not_suited, suited, not_ahead, ahead, selection_answer, selection_end}
 use Rattle.flow_rules.proofs.check.merge_rule.Goals as goal
 
 pub returns-then-not-suits : goal.returns-then-not-suits

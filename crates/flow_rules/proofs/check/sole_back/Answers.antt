@@ -1,4 +1,4 @@
-use Rattle.std.proofs.Common.{ℕ, subst, sym, arith, ◌≡◌, ◌∙◌, ◌<◌}
+use Rattle.std.proofs.Common.{ℕ, subst, sym, arith, ◌∙◌}
 use Rattle.flow_rules.specs.Flow.{SoleBack}
 use Rattle.flow_rules.proofs.Deciding.{sole_found, sole_none}
 use Rattle.flow_rules.proofs.check.sole_back.Goals as goal

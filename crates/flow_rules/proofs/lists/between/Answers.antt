@@ -1,4 +1,4 @@
-use Rattle.std.proofs.Common.{refl, take, ℕ, List, subst}
+use Rattle.std.proofs.Common.{refl, ℕ, List, subst}
 use Rattle.std.proofs.lemmas.List.{take_all}
 use Rattle.flow_rules.specs.Lists.{IsBetween}
 use Rattle.flow_rules.proofs.Listing.{between_more, between_sorted}

@@ -1,5 +1,4 @@
-use Rattle.std.proofs.Common.{ℕ, take, ◌<◌}
-use Rattle.std.specs.List.{Contains}
+use Rattle.std.proofs.Common.{take}
 use Rattle.flow_rules.specs.Lists.{IsBetween}
 use Rattle.flow_rules.proofs.lists.between.Given as goal
 

@@ -1,4 +1,3 @@
-use Rattle.std.proofs.Common.{ℕ, List, Option, Some, None, ◌≡◌}
 use Rattle.flow_rules.proofs.Listing.{switch_span}
 use Rattle.flow_rules.proofs.lists.switch_of.Goals as goal
 

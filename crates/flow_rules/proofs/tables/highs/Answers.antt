@@ -1,6 +1,5 @@
-use Rattle.std.proofs.Common.{arith, ◌≡◌, ◌<◌, ◌≤◌, ◌++◌, ◌∷◌, [], List, ℕ, sym, ap, ◌∙◌, subst, length, get_or}
+use Rattle.std.proofs.Common.{arith, ◌≡◌, ◌≤◌, ◌++◌, ◌∷◌, [], List, ℕ, sym, subst, length}
 use Rattle.std.proofs.lemmas.Grind.{common_steps}
-use Rattle.flow_rules.specs.declared.block.BasicBlock.{BasicBlock}
 use Rattle.flow_rules.specs.Lists.{IsHigh, AreHighs}
 use Rattle.flow_rules.proofs.Blocks.{at_index, at_below}
 use Rattle.flow_rules.proofs.Numbers.{values_more}

@@ -1,4 +1,4 @@
-use Rattle.std.proofs.Common.{arith, ◌≤◌, ◌+◌, ◌-◌, ◌≡◌, length}
+use Rattle.std.proofs.Common.{arith, ◌-◌}
 use Rattle.flow_scans.proofs.range.is_above.Goals as goal
 
 pub bounds-maxima-level : goal.bounds-maxima-level

@@ -1,4 +1,4 @@
-use Rattle.std.proofs.Common.{arith, ◌≤◌, ◌+◌, ◌-◌, ◌*◌, ◌≡◌, ◌++◌, ◌∷◌, [], ◌<◌, ◌⊎◌, length, subst, sym, ℕ, List, inl, inr, ◌∙◌}
+use Rattle.std.proofs.Common.{arith, ◌+◌, ◌≡◌, ◌++◌, ◌∷◌, [], ◌<◌, length, subst, sym, ℕ, List, inl, inr, ◌∙◌}
 use Rattle.std.proofs.lemmas.Grind.{common_steps, get_or_default_zero}
 use Rattle.flow_scans.specs.Ranges.{IsWidened}
 use Rattle.flow_scans.proofs.Widths.{widened_more}

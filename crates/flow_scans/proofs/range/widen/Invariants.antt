@@ -1,4 +1,3 @@
-use Rattle.std.proofs.Common.{◌≡◌, length}
 use Rattle.flow_scans.specs.Ranges.{IsWidened}
 use Rattle.flow_scans.proofs.range.widen.Given as goal
 

@@ -1,5 +1,4 @@
-use Rattle.std.proofs.Common.{sym, ◌∙◌, arith, ap, is_some}
-use Rattle.std.proofs.lemmas.Grind.{common_steps}
+use Rattle.std.proofs.Common.{sym, ◌∙◌}
 use Rattle.id_rules.proofs.KeyLaws.{kept_none, kept_there, kept_new}
 use Rattle.id_rules.proofs.declared.keep_first.Goals as goal
 

@@ -1,7 +1,6 @@
-use Rattle.std.proofs.Common.{subst, sym, ap, ◌∙◌, ◌≡◌, length, List, Some, None, Err, Result, arith}
+use Rattle.std.proofs.Common.{subst, ap, ◌∙◌, ◌≡◌, length, List, None, arith}
 use Rattle.spv_form.specs.declared.module.Inst.{Inst}
-use Rattle.id_rules.specs.Again.{AreFormed}
-use Rattle.module_rules.specs.Answers.{RulesAnswer, IsLeastAtStart, FindsMissing, EachAnswer}
+use Rattle.module_rules.specs.Answers.{IsLeastAtStart, FindsMissing, EachAnswer}
 use Rattle.module_rules.proofs.ModuleLaws.{high, few, at_start, alone}
 use Rattle.module_rules.proofs.check.check_rules.Goals as goal
 use Rattle.module_rules.proofs.check.check_rules.Goals.{in-Ok-rule_at_start, in-Err}

@@ -1,6 +1,6 @@
-use Rattle.std.proofs.Common.{refl, subst, sym, ap, ◌∙◌, ◌≡◌, slice_get, length, Some, Err, arith}
+use Rattle.std.proofs.Common.{refl, subst, sym, ap, ◌∙◌, ◌≡◌, slice_get, length, Some, arith}
 use Rattle.std.proofs.lemmas.Option.{slice_get_read}
-use Rattle.module_rules.specs.Answers.{EachAnswer, Finds}
+use Rattle.module_rules.specs.Answers.{Finds}
 use Rattle.module_rules.proofs.ModuleLaws.{clear_more, first_broken, all_clear}
 use Rattle.module_rules.proofs.check.each_rule.Goals as goal
 

@@ -1,4 +1,3 @@
-use Rattle.std.proofs.Common.{ℕ}
 use Rattle.module_rules.proofs.ModuleLaws.{IsClear}
 use Rattle.module_rules.proofs.check.each_rule.Given as goal
 

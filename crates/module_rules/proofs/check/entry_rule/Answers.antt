@@ -1,4 +1,4 @@
-use Rattle.std.proofs.Common.{sym, ap, subst, ◌∙◌, arith}
+use Rattle.std.proofs.Common.{sym, subst, ◌∙◌, arith}
 use Rattle.module_rules.specs.Answers.{IsWriteAnswer}
 use Rattle.module_rules.proofs.RuleLaws.{found, unbroken_none, formed_at, broken_8, past_8, past_9, past_10}
 use Rattle.module_rules.specs.Rules.{Breaks}

@@ -1,4 +1,4 @@
-use Rattle.std.proofs.Common.{sym, ap, subst, IsTrue, ◌↔◌, ◌∙◌, arith}
+use Rattle.std.proofs.Common.{sym, subst, IsTrue, ◌↔◌, ◌∙◌, arith}
 use Rattle.id_rules.specs.Again.{IsDeclaredAgain}
 use Rattle.module_rules.proofs.RuleLaws.{found, unbroken_none, past_5, past_6, past_7}
 use Rattle.module_rules.specs.Rules.{Breaks}

@@ -1,4 +1,4 @@
-use Rattle.std.proofs.Common.{refl, arith}
+use Rattle.std.proofs.Common.{refl}
 use Rattle.order_rules.proofs.MergeLaws.{counting_first, counting_more, crowded_here, never_crowded, room}
 use Rattle.order_rules.proofs.merges.first_crowded.Goals as goal
 

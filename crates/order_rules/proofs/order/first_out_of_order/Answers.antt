@@ -1,4 +1,4 @@
-use Rattle.std.proofs.Common.{refl, arith, sym, ◌∙◌}
+use Rattle.std.proofs.Common.{refl, sym, ◌∙◌}
 use Rattle.std.proofs.lemmas.Option.{slice_get_read}
 use Rattle.order_rules.proofs.OrderLaws.{stuck_here, never_stuck}
 use Rattle.order_rules.proofs.order.first_out_of_order.Goals as goal

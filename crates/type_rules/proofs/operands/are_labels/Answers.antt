@@ -1,4 +1,4 @@
-use Rattle.std.proofs.Common.{ℕ, ◌≡◌, ◌+◌, ◌<◌, ◌%◌, sym, arith, get_or, length, true, false}
+use Rattle.std.proofs.Common.{sym, arith}
 use Rattle.std.proofs.lemmas.Grind.{common_steps}
 use Rattle.type_rules.specs.Values.{is_label}
 use Rattle.type_rules.proofs.PairLaws.{seconds_pass, second_fails}

@@ -1,7 +1,7 @@
-use Rattle.std.proofs.Common.{arith, ◌≡◌, unwrap_or}
+use Rattle.std.proofs.Common.{arith}
 use Rattle.std.specs.BTreeMap as tree
 use Rattle.std.proofs.lemmas.Grind.{common_steps}
-use Rattle.decoration_rules.specs.Variables.{crowd, pair_cmp}
+use Rattle.decoration_rules.specs.Variables.{pair_cmp}
 use Rattle.decoration_rules.proofs.SeatLaws.{crowd_of}
 use Rattle.decoration_rules.proofs.resources.Resources.crowd.Goals as goal
 

@@ -1,4 +1,4 @@
-use Rattle.std.proofs.Common.{arith, ◌≤◌, ◌+◌, ◌-◌, ◌*◌, ◌≡◌, ◌++◌, ◌∷◌, [], ◌<◌, length, subst, sym, ℕ, List}
+use Rattle.std.proofs.Common.{arith, ◌≡◌, ◌++◌, ◌∷◌, [], subst, sym, ℕ, List}
 use Rattle.std.proofs.lemmas.Grind.{common_steps}
 use Rattle.flow_scans.specs.declared.range.Level.{Level}
 use Rattle.flow_scans.specs.Ranges.{IsWide, IsLevel, LastLevel}

@@ -1,4 +1,4 @@
-use Rattle.std.proofs.Common.{◌≡◌, ◌-◌, length}
+use Rattle.std.proofs.Common.{◌-◌, length}
 use Rattle.flow_scans.specs.Ranges.{IsWide, IsLevel, LastLevel}
 use Rattle.flow_scans.proofs.range.RangeMax.new.Given as goal
 
