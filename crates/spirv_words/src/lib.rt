@@ -9,5 +9,6 @@ mod read;
 mod tests;
 mod write;
 
+pub use operands::{is_id, last_of};
 pub use read::read_module;
 pub use write::write_module;

@@ -96,8 +96,8 @@ pub fn string_ends(shape: Shape, operands: &[u32]) -> bool
     }
 }
 
-/// The place of the string's last word.
-fn last_of(shape: Shape, operands: &[u32]) -> Option<usize>
+/// The place of the string's last word; None where the operands have no string with an end.
+pub fn last_of(shape: Shape, operands: &[u32]) -> Option<usize>
     ensures { result ≡ operand.last_of shape operands.now }
 {
     match shape {
@@ -114,7 +114,7 @@ fn is_clear(mask: u16, bit: usize) -> bool
 }
 
 /// Whether the operand word at a place is an id, where the string's last word stands at `last`.
-fn is_id(shape: Shape, last: Option<usize>, at: usize) -> bool
+pub fn is_id(shape: Shape, last: Option<usize>, at: usize) -> bool
     ensures { result ≡ operand.is_id_at shape last at }
 {
     match shape {
