@@ -1,0 +1,4 @@
+pub mod FewBlocks
+pub mod Made
+pub mod Numbered
+pub mod TableLaws

@@ -1,0 +1,10 @@
+//! The check of a SPIR-V module: its rules V, and the structure rules S of its blocks.
+#![tactic(auto)]
+
+mod check;
+mod number;
+
+pub use check::check_module;
+
+#[cfg(test)]
+mod tests;
