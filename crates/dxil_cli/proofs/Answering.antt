@@ -2,8 +2,10 @@
 use Rattle.std.proofs.Common.{◌≡◌, ◌∙◌, ℕ, List, Option, Some, sym, ap, arith, subst}
 use Rattle.dx_outside.specs.Outside.{Store}
 use Rattle.dx_file.proofs.Answering.{refusal_unique, content_sound}
-use Rattle.dxil_cli.specs.Commands.{Command, translate, show, unknown, source}
-use Rattle.dxil_cli.specs.Answers.{Answer, answer_to, refusal_answer, lines_answer, IsTranslated, IsListed, by_lines, by_refusal, IsOfFile, too_long, of_bytes, IsAnswer}
+use Rattle.spirv_file.proofs.Refusals.{refusal_unique as word_refusal_unique, accepted_sound}
+use Rattle.spirv_words.specs.FileWords.{words_of}
+use Rattle.dxil_cli.specs.Commands.{Command, translate, show, check, unknown, source}
+use Rattle.dxil_cli.specs.Answers.{Answer, answer_to, refusal_answer, lines_answer, word_refusal_answer, IsTranslated, IsListed, by_lines, by_refusal, IsChecked, by_words, by_word_refusal, IsOfFile, too_long, of_bytes, IsAnswer}
 use Rattle.dxil_cli.specs.Runs.{Read, Tells}
 use Rattle.dxil_cli.proofs.Unique.{verdict_unique, shown_unique}
 
@@ -15,6 +17,12 @@ listed_unique bytes a b (by_lines t s e) (by_lines u r f) = e ∙ ap lines_answe
 listed_unique bytes a b (by_lines t s e) (by_refusal r x f) = absurd (content_sound bytes s.parts s.is s.fs r s.content x)
 listed_unique bytes a b (by_refusal r x e) (by_lines t s f) = absurd (content_sound bytes s.parts s.is s.fs r s.content x)
 listed_unique bytes a b (by_refusal r x e) (by_refusal q y f) = e ∙ ap refusal_answer (refusal_unique bytes r q x y) ∙ sym f
+
+checked_unique : (bytes : List ℕ) (a b : Answer) → IsChecked bytes a → IsChecked bytes b → a ≡ b
+checked_unique bytes a b (by_words s e) (by_words r f) = e ∙ sym f
+checked_unique bytes a b (by_words s e) (by_word_refusal r w x f) = absurd (accepted_sound bytes r w s x)
+checked_unique bytes a b (by_word_refusal r w x e) (by_words s f) = absurd (accepted_sound bytes r w s x)
+checked_unique bytes a b (by_word_refusal r w x e) (by_word_refusal q v y f) = let u = word_refusal_unique bytes r q w v x y in e ∙ ap (λ z. word_refusal_answer z w) u.0 ∙ ap (word_refusal_answer q) u.1 ∙ sym f
 
 of_file_unique : (Answers : Answer → Type 0) → ((a b : Answer) → Answers a → Answers b → a ≡ b) → (bytes : List ℕ) (a b : Answer) → IsOfFile Answers bytes a → IsOfFile Answers bytes b → a ≡ b
 of_file_unique Answers one bytes a b (too_long l e) (too_long m f) = e ∙ sym f
@@ -33,4 +41,7 @@ status_unique (translate from to) files bytes told a b read tells right other =
 status_unique (show from) files bytes told a b read tells right other =
     let same = same_read files from bytes told read tells in
     ap (λ w. w.status) (of_file_unique (IsListed told) (listed_unique told) told b a other (subst (λ (w : List ℕ). IsOfFile (IsListed w) w a) same right))
+status_unique (check from) files bytes told a b read tells right other =
+    let same = same_read files from bytes told read tells in
+    ap (λ w. w.status) (of_file_unique (IsChecked told) (checked_unique told) told b a other (subst (λ (w : List ℕ). IsOfFile (IsChecked w) w a) same right))
 status_unique unknown files bytes told a b read tells right other = ap (λ w. w.status) (other ∙ sym right)

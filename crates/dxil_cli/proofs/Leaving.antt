@@ -1,5 +1,5 @@
 -- What the steps of a run say of the whole.
-use Rattle.std.proofs.Common.{◌≡◌, ◌≤◌, ◌<◌, ◌+◌, ◌^◌, ◌⊎◌, ◌∙◌, inl, inr, ℕ, List, [], ◌∷◌, ◌++◌, Option, Some, None, Result, Ok, Err, IfOk, refl, sym, ap, length, codes, arith, zero, suc}
+use Rattle.std.proofs.Common.{◌≡◌, ◌≤◌, ◌<◌, ◌+◌, ◌/◌, ◌^◌, ◌⊎◌, ◌∙◌, inl, inr, ℕ, List, [], ◌∷◌, ◌++◌, Option, Some, None, Result, Ok, Err, IfOk, refl, sym, ap, length, codes, arith, zero, suc}
 use Rattle.std.specs.declared.alloc.AllocError.{AllocError}
 use Rattle.std.proofs.lemmas.Fmt.{decimal_digit}
 use Rattle.dx_base.specs.declared.fault.Which.TheVariants.{File}
@@ -16,11 +16,15 @@ use Rattle.dx_base.specs.declared.fault.Fault.TheVariants as fault
 use Rattle.dx_file.specs.Layers.{Refusal, refused, limited}
 use Rattle.dx_file.specs.Reading.{FaultAnswer}
 use Rattle.dx_show.specs.Showing.{IsShown}
-use Rattle.dxil_cli.specs.Commands.{Command, translate, show, unknown, source, target}
+use Rattle.spv_form.specs.declared.fault.WordRule.{WordRule}
+use Rattle.spirv_words.specs.FileWords.{words_of}
+use Rattle.spirv_words.proofs.FileWordLaws.{length-words_of}
+use Rattle.spirv_file.specs.Checking.{IsAccepted, IsFirstRefusal as IsFirstWordRefusal}
+use Rattle.dxil_cli.specs.Commands.{Command, translate, show, check, unknown, source, target}
 use Rattle.dxil_cli.specs.Verdicts.{Verdict, written, stopped, IsVerdict, TranslateAnswer}
-use Rattle.dxil_cli.specs.Answers.{Answer, answer_to, refusal_answer, IsListed, by_lines, by_refusal, too_long, of_bytes, IsAnswer, rule_name, limit_name, refused_line, limit_line, translated_line, usage_line}
+use Rattle.dxil_cli.specs.Answers.{Answer, answer_to, refusal_answer, IsListed, by_lines, by_refusal, IsChecked, by_words, by_word_refusal, word_rule_name, refused_word_line, checked_line, too_long, of_bytes, IsAnswer, rule_name, limit_name, refused_line, limit_line, translated_line, usage_line}
 use Rattle.dxil_cli.specs.Runs.{Read, Tells, FilesAfter, RoseAt, Answered, Leaves, InPlaceOf, IsExact, IsComplete}
-use Rattle.dxil_cli.specs.Outputs.{answer_of, IsOutput, IsListing, IsRefusalOutput, IsFaultOutput, IsOfAnswer, Concluded, whole, failed, lacking, Finishes}
+use Rattle.dxil_cli.specs.Outputs.{answer_of, IsOutput, IsListing, IsReport, IsRefusalOutput, IsFaultOutput, IsOfAnswer, Concluded, whole, failed, lacking, Finishes}
 use Rattle.dxil_cli.proofs.Answering.{status_unique}
 
 of_refusal : (r : Refusal) → IsOfAnswer (refusal_answer r).status
@@ -37,6 +41,9 @@ of_answer (translate from to) bytes answer (of_bytes l t) = rw t.answer_is (of_v
 of_answer (show from) bytes answer (too_long l e) = rw e tt
 of_answer (show from) bytes answer (of_bytes l (by_lines text s e)) = rw e tt
 of_answer (show from) bytes answer (of_bytes l (by_refusal r x e)) = rw e (of_refusal r)
+of_answer (check from) bytes answer (too_long l e) = rw e tt
+of_answer (check from) bytes answer (of_bytes l (by_words s e)) = rw e tt
+of_answer (check from) bytes answer (of_bytes l (by_word_refusal r w x e)) = rw e tt
 of_answer unknown bytes answer e = rw e tt
 
 -- A refusal, a limit and the lines of a file write nothing.
@@ -47,6 +54,10 @@ refusal_writes (limited which bit) = refl
 pub listed_writes : (bytes : List ℕ) (answer : Answer) → IsListed bytes answer → answer.writes ≡ None
 listed_writes bytes answer (by_lines text s e) = rw e refl
 listed_writes bytes answer (by_refusal r x e) = rw e (refusal_writes r)
+
+pub checked_writes : (bytes : List ℕ) (answer : Answer) → IsChecked bytes answer → answer.writes ≡ None
+checked_writes bytes answer (by_words s e) = rw e refl
+checked_writes bytes answer (by_word_refusal r w x e) = rw e refl
 
 not_some : (answer : Answer) (w : List ℕ × List ℕ) → answer.writes ≡ None → answer.writes ≡ Some w → ⊥
 not_some answer w nothing has = absurd (cc)
@@ -60,6 +71,8 @@ writes_done (translate from to) bytes answer w (of_bytes l t) has = rw t.answer_
   by_verdict (stopped r) has = absurd (not_some (refusal_answer r) w (refusal_writes r) has)
 writes_done (show from) bytes answer w (too_long l e) has = absurd (not_some answer w (rw e refl) has)
 writes_done (show from) bytes answer w (of_bytes l t) has = absurd (not_some answer w (listed_writes bytes answer t) has)
+writes_done (check from) bytes answer w (too_long l e) has = absurd (not_some answer w (rw e refl) has)
+writes_done (check from) bytes answer w (of_bytes l t) has = absurd (not_some answer w (checked_writes bytes answer t) has)
 writes_done unknown bytes answer w e has = absurd (not_some answer w (rw e refl) has)
 
 answered_leaves : (command : Command) (files : FilesSeen) (sink : SinkSeen) (files' : FilesSeen) (sink' : SinkSeen) (status : Status) → IsOfAnswer status
@@ -147,6 +160,20 @@ show_failed (Ok output) bytes fault.OutOfMemory v o = absurd o
 
 pub shown_listing : (bytes text : List ℕ) → IsShown bytes text → IsListing bytes (record { status = Done; bytes = None; text = text })
 shown_listing bytes text s = record { listed = λ to. by_lines text s refl }
+
+pub made_accepted : (r : Result Output AllocError) (bytes : List ℕ) (count : ℕ) → count ≡ length bytes / 4 → IsAccepted bytes
+    → IfOk r (λ output. output.status ≡ Done) → IfOk r (λ output. output.bytes ≡ None) → IfOk r (λ output. output.text ≡ checked_line count)
+    → IfOk r (λ output. IsReport bytes output)
+made_accepted (Err e) bytes count c a s b t = tt
+made_accepted (Ok output) bytes count c a s b t =
+    let long : count ≡ length (words_of bytes) = c ∙ sym (length-words_of bytes) in
+    record { checked = λ to. by_words a (rw (s, b, t, long) refl) }
+
+pub made_word_refusal : (r : Result Output AllocError) (bytes : List ℕ) (rule : WordRule) (word : ℕ) → IsFirstWordRefusal bytes rule word
+    → IfOk r (λ output. output.status ≡ Refused) → IfOk r (λ output. output.bytes ≡ None) → IfOk r (λ output. output.text ≡ refused_word_line (word_rule_name rule) word)
+    → IfOk r (λ output. IsReport bytes output)
+made_word_refusal (Err e) bytes rule word x s b t = tt
+made_word_refusal (Ok output) bytes rule word x s b t = record { checked = λ to. by_word_refusal rule word x (rw (s, b, t) refl) }
 
 in_place : (command : Command) (files : FilesSeen) (sink : SinkSeen) (files' : FilesSeen) (sink' : SinkSeen) (status : Status) → Leaves command files sink files' sink' status
     → (bytes : List ℕ) (answer : Answer) → Tells (source command) files.store bytes → IsAnswer command bytes answer → InPlaceOf answer.status status
@@ -237,6 +264,13 @@ pub listed_leaves : (from bytes : List ℕ) (output : Output) (files mid : Files
 listed_leaves from bytes output files mid sink sink' status same stood short listing said =
     let listed : IsListed bytes (answer_of [] output) = listing.listed [] in
     concluded (show from) files sink mid sink' bytes (answer_of [] output) status stood (of_bytes short listed) (rw (listed_writes bytes (answer_of [] output) listed) same) said
+
+-- The count of the words, or their refusal.
+pub checked_leaves : (from bytes : List ℕ) (output : Output) (files mid : FilesSeen) (sink sink' : SinkSeen) (status : Status) → mid.store ≡ files.store → Stood files.store from bytes
+    → length bytes ≤ 2 ^ 26 → IsReport bytes output → Concluded output.text sink sink' output.status status → Leaves (check from) files sink mid sink' status
+checked_leaves from bytes output files mid sink sink' status same stood short report said =
+    let checked : IsChecked bytes (answer_of [] output) = report.checked [] in
+    concluded (check from) files sink mid sink' bytes (answer_of [] output) status stood (of_bytes short checked) (rw (checked_writes bytes (answer_of [] output) checked) same) said
 
 -- The words are of no form that is known.
 pub usage_leaves : (command : Command) (text : List ℕ) (files : FilesSeen) (sink sink' : SinkSeen) (status : Status) → command ≡ unknown → text ≡ usage_line

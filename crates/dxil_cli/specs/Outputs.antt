@@ -9,7 +9,7 @@ use Rattle.dxil_cli.specs.declared.output.Output.{Output}
 use Rattle.dxil_cli.specs.declared.status.Status.{Status}
 use Rattle.dxil_cli.specs.declared.status.Status.TheVariants.{Done, Refused, Usage, ReadFault, WriteFault, Limit, OutOfMemory, SayFault}
 use Rattle.dxil_cli.specs.Commands.{Command, source, target}
-use Rattle.dxil_cli.specs.Answers.{Answer, refusal_answer, IsAnswer, IsTranslated, IsListed}
+use Rattle.dxil_cli.specs.Answers.{Answer, refusal_answer, IsAnswer, IsTranslated, IsListed, IsChecked}
 use Rattle.dxil_cli.specs.Runs.{Read, Leaves}
 
 -- the answer that an output is
@@ -23,6 +23,10 @@ pub record IsOutput (bytes : List ℕ) (output : Output) : Type 0 where
 -- The output is the answer of `show` to a file of these bytes.
 pub record IsListing (bytes : List ℕ) (output : Output) : Type 0 where
   pub listed : (to : List ℕ) → IsListed bytes (answer_of to output)
+
+-- The output is the answer of `check` to a file of these bytes.
+pub record IsReport (bytes : List ℕ) (output : Output) : Type 0 where
+  pub checked : (to : List ℕ) → IsChecked bytes (answer_of to output)
 
 -- the output is the answer to a refusal
 pub record IsRefusalOutput (refusal : Refusal) (output : Output) : Type 0 where

@@ -9,6 +9,8 @@ pub enum CommandLine<'a> {
     Translate { from: &'a str, to: &'a str },
     /// `show IN`
     Show { from: &'a str },
+    /// `check IN`
+    Check { from: &'a str },
     /// Words of no known form.
     Unknown,
 }
@@ -20,6 +22,11 @@ pub fn parse_words(words: &[String]) -> CommandLine<'_>
     if words.len() == 2 {
         if words[0].as_str() == "show" {
             return CommandLine::Show {
+                from: words[1].as_str(),
+            };
+        }
+        if words[0].as_str() == "check" {
+            return CommandLine::Check {
                 from: words[1].as_str(),
             };
         }

@@ -1,12 +1,14 @@
 ghost use Rattle.std.specs.Prelude.{◌≡◌, ◌≤◌, ◌^◌, length, IfOk, None, Some, string_bytes};
 ghost use Rattle.dx_base.specs.WordBytes.{bytes_of_words};
-ghost use Rattle.dxil_cli.specs.Answers.{rule_name, limit_name, refused_line, limit_line, translated_line};
-ghost use Rattle.dxil_cli.specs.Outputs.{IsOutput, IsListing, IsFaultOutput};
+ghost use Rattle.dxil_cli.specs.Answers.{rule_name, word_rule_name, limit_name, refused_line, refused_word_line, limit_line, translated_line, checked_line};
+ghost use Rattle.dxil_cli.specs.Outputs.{IsOutput, IsListing, IsReport, IsFaultOutput};
 
 use crate::status::Status;
 use crate::translate::translate;
 use dx_base::{Bytes, Fault, List, Rule, Which, Words, bytes_of};
 use dx_show::show;
+use spirv_file::check_file;
+use spv_form::{CheckFault, WordRule};
 use std::alloc::{AllocError, Global};
 
 /// All that a command has made before it writes and says.
@@ -43,6 +45,17 @@ fn named_rule(alloc: Global, rule: Rule) -> Result<String, AllocError>
         Rule::N(n) => format!(in alloc; "N{n}"),
         Rule::P(n) => format!(in alloc; "P{n}"),
         Rule::NotYet => format!(in alloc; "NotYet"),
+    }
+}
+
+/// The letter and number of a rule of words.
+fn named_word_rule(alloc: Global, rule: WordRule) -> Result<String, AllocError>
+    ensures { IfOk result (λ text. string_bytes text ≡ word_rule_name rule) }
+{
+    match rule {
+        WordRule::W(n) => format!(in alloc; "W{n}"),
+        WordRule::V(n) => format!(in alloc; "V{n}"),
+        WordRule::S(n) => format!(in alloc; "S{n}"),
     }
 }
 
@@ -113,6 +126,37 @@ fn success(alloc: Global, words: &Words) -> Result<Output, AllocError>
     })
 }
 
+/// The output for a file of words that breaks a rule.
+fn word_refusal(alloc: Global, rule: WordRule, word: u32) -> Result<Output, AllocError>
+    ensures status { IfOk result (λ output. output.status ≡ Status.Refused) }
+    ensures bytes { IfOk result (λ output. output.bytes ≡ None) }
+    ensures text { IfOk result (λ output. output.text ≡ refused_word_line (word_rule_name rule) word) }
+{
+    let name = named_word_rule(alloc, rule)?;
+    let line = format!(in alloc; "refused {name} word {word}\n")?;
+    let text = bytes_of_text(alloc, line.as_str())?;
+    Ok(Output {
+        status: Status::Refused,
+        bytes: None,
+        text,
+    })
+}
+
+/// The output for so many words that are accepted.
+fn accepted(alloc: Global, count: usize) -> Result<Output, AllocError>
+    ensures status { IfOk result (λ output. output.status ≡ Status.Done) }
+    ensures bytes { IfOk result (λ output. output.bytes ≡ None) }
+    ensures text { IfOk result (λ output. output.text ≡ checked_line count) }
+{
+    let line = format!(in alloc; "checked {count} words\n")?;
+    let text = bytes_of_text(alloc, line.as_str())?;
+    Ok(Output {
+        status: Status::Done,
+        bytes: None,
+        text,
+    })
+}
+
 /// The output for a file that breaks a rule or passes a limit.
 fn fault_output(alloc: Global, fault: Fault) -> Result<Output, AllocError>
     ensures { IfOk result (λ output. IsFaultOutput fault output) }
@@ -147,5 +191,17 @@ pub fn listing_for(alloc: Global, bytes: &[u8]) -> Result<Output, AllocError>
             text,
         }),
         Err(fault) => fault_output(alloc, fault),
+    }
+}
+
+/// All that `check` says for a file of these bytes, at most 2^26.
+pub fn report_for(alloc: Global, bytes: &[u8]) -> Result<Output, AllocError>
+    requires { length bytes.now ≤ 2 ^ 26 }
+    ensures { IfOk result (λ output. IsReport bytes.now output) }
+{
+    match check_file(alloc, bytes) {
+        Ok(()) => accepted(alloc, bytes.len() / 4),
+        Err(CheckFault::Refused { rule, word }) => word_refusal(alloc, rule, word),
+        Err(CheckFault::OutOfMemory) => Err(AllocError),
     }
 }

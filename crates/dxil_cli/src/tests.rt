@@ -1,6 +1,6 @@
 ghost use Rattle.std.specs.Prelude.{None, ◌<◌, ◌^◌};
 
-use crate::example::{CONTAINER, MODULE};
+use crate::example::{CONTAINER, MODULE, SHARED_MERGE};
 use crate::{Status, run};
 use dx_outside::{Files, MemoryFiles, MemorySink, Outage, Sink, SteadyFiles, SteadySink};
 use std::alloc::Global;
@@ -15,6 +15,8 @@ const SHOWN: &[u8] = b"part DXIL at 36 size 40\nblock 8 bit 576\nrecord 1 fields
 const TRANSLATE: [&str; 3] = ["translate", "a", "b"];
 
 const SHOW: [&str; 2] = ["show", "a"];
+
+const CHECK: [&str; 2] = ["check", "a"];
 
 /// A container whose module has one record.
 const SMALL: [u8; 84] = [
@@ -144,6 +146,11 @@ fn other_answers_change_no_file(rt: HostRuntime) -> Result<(), Fail> {
         (&SHOW, NEVER, Status::Refused, refused),
         (&SHOW, 0, Status::SayFault, b""),
         (&["show", "c"], NEVER, Status::ReadFault, b""),
+        (&["check"], NEVER, Status::Usage, USAGE),
+        (&["check", "a", "b"], NEVER, Status::Usage, USAGE),
+        (&CHECK, NEVER, Status::Refused, b"refused W1 word 0\n"),
+        (&CHECK, 0, Status::SayFault, b""),
+        (&["check", "c"], NEVER, Status::ReadFault, b""),
     ];
     for (words, sink_fails, status, said) in table {
         let (ended, has, out) = attempt(rt.alloc(), words, b"", NEVER, sink_fails)?;
@@ -220,6 +227,92 @@ fn files_have_these_answers(rt: HostRuntime) -> Result<(), Fail> {
             if done { shown } else { translated },
             "{changes:?}"
         );
+    }
+    Ok(())
+}
+
+/// The bytes of the words, of which some are set.
+fn bytes_of_words(alloc: Global, words: &[u32], changes: &[(usize, u32)]) -> Result<Vec<u8>, Fail> {
+    let mut words = words.to_vec(alloc)?;
+    for (place, word) in changes {
+        if *place < words.len() {
+            words[*place] = *word;
+        }
+    }
+    let mut bytes = Vec::new(alloc);
+    for word in words {
+        bytes.extend_from_slice(&word.to_le_bytes())?;
+    }
+    Ok(bytes)
+}
+
+#[test]
+fn words_have_these_answers(rt: HostRuntime) -> Result<(), Fail> {
+    // the merge block of the inner selection made a block of its own, which stands before label 8
+    let mut nested = SHARED_MERGE[..54].to_vec(rt.alloc())?;
+    nested.extend_from_slice(&[0x0002_00F8, 10, 0x0002_00F9, 8])?;
+    nested.extend_from_slice(&SHARED_MERGE[54..])?;
+    let table: [(&[u32], &[(usize, u32)], usize, Status, &[u8]); 10] = [
+        (&MODULE, &[], 152, Status::Done, b"checked 38 words\n"),
+        (
+            &MODULE,
+            &[(37, 0x0002_0038)],
+            152,
+            Status::Refused,
+            b"refused W5 word 37\n",
+        ),
+        (
+            &MODULE,
+            &[(3, 4)],
+            152,
+            Status::Refused,
+            b"refused W9 word 21\n",
+        ),
+        (
+            &MODULE,
+            &[(18, 0)],
+            152,
+            Status::Refused,
+            b"refused V12 word 15\n",
+        ),
+        (&MODULE, &[], 151, Status::Refused, b"refused W1 word 0\n"),
+        (&MODULE, &[(2, 7)], 152, Status::Done, b"checked 38 words\n"),
+        (
+            &SHARED_MERGE,
+            &[],
+            248,
+            Status::Refused,
+            b"refused S3 word 47\n",
+        ),
+        (
+            &SHARED_MERGE,
+            &[(48, 8)],
+            248,
+            Status::Refused,
+            b"refused S10 word 50\n",
+        ),
+        (
+            &SHARED_MERGE,
+            &[(18, 0)],
+            248,
+            Status::Refused,
+            b"refused V12 word 15\n",
+        ),
+        (
+            nested.as_slice(),
+            &[(3, 11), (48, 8), (52, 10), (53, 8)],
+            264,
+            Status::Done,
+            b"checked 66 words\n",
+        ),
+    ];
+    for (words, changes, length, status, said) in table {
+        let bytes = bytes_of_words(rt.alloc(), words, changes)?;
+        assert!(rt; length <= bytes.len());
+        let (ended, written, out) = attempt(rt.alloc(), &CHECK, &bytes[..length], NEVER, NEVER)?;
+        assert_eq!(rt; ended, status, "{changes:?}");
+        assert!(rt; written.is_none(), "{changes:?}");
+        assert_eq!(rt; out.taken(), said, "{changes:?}");
     }
     Ok(())
 }

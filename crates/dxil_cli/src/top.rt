@@ -1,11 +1,11 @@
 ghost use Rattle.std.specs.Prelude.{◌≡◌, map, string_bytes, []};
 ghost use Rattle.dx_outside.specs.Outside.{Rose, FilesNeverFell, SinkNeverFell};
-ghost use Rattle.dxil_cli.specs.Commands.{command_of, translate as translate_command, show as show_command};
+ghost use Rattle.dxil_cli.specs.Commands.{command_of, translate as translate_command, show as show_command, check as check_command};
 ghost use Rattle.dxil_cli.specs.Runs.{Leaves, IsExact, IsComplete};
 ghost use Rattle.dxil_cli.specs.Outputs.{Finishes, Concluded};
 
 use crate::command_line::{CommandLine, parse_words};
-use crate::output::{Output, listing_for, output_for};
+use crate::output::{Output, listing_for, output_for, report_for};
 use crate::status::Status;
 use dx_outside::{Files, Outage, Sink, Whole, read_whole, say};
 use std::alloc::Global;
@@ -82,6 +82,23 @@ fn show_file<F: Files, S: Sink>(alloc: Global, from: &str, files: &mut F, out: &
     }
 }
 
+/// The command `check IN`.
+fn check_words<F: Files, S: Sink>(alloc: Global, from: &str, files: &mut F, out: &mut S) -> Status
+    ensures leaves { Leaves (check_command from.now) (F.seen files.old) (S.seen out.old) (F.seen files.new) (S.seen out.new) result }
+    ensures file_counts { FilesNeverFell (F.seen files.old) (F.seen files.new) }
+    ensures sink_counts { SinkNeverFell (S.seen out.old) (S.seen out.new) }
+{
+    match read_whole(alloc, files, from) {
+        Whole::Read(bytes) => match report_for(alloc, bytes.as_slice()) {
+            Ok(output) => conclude(output.status, output.text.as_slice(), out),
+            Err(_) => Status::OutOfMemory,
+        },
+        Whole::TooLong => conclude(Status::Limit, TOO_LONG, out),
+        Whole::Failed => Status::ReadFault,
+        Whole::OutOfMemory => Status::OutOfMemory,
+    }
+}
+
 /// Does what the words ask.
 fn perform<F: Files, S: Sink>(alloc: Global, words: &[String], files: &mut F, out: &mut S) -> Status
     ensures leaves { Leaves (command_of (map string_bytes words.now)) (F.seen files.old) (S.seen out.old) (F.seen files.new) (S.seen out.new) result }
@@ -92,6 +109,7 @@ fn perform<F: Files, S: Sink>(alloc: Global, words: &[String], files: &mut F, ou
     match parse_words(words) {
         CommandLine::Translate { from, to } => translate_file(alloc, from, to, files, out),
         CommandLine::Show { from } => show_file(alloc, from, files, out),
+        CommandLine::Check { from } => check_words(alloc, from, files, out),
         CommandLine::Unknown => conclude(Status::Usage, USAGE, out),
     }
 }

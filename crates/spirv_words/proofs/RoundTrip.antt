@@ -89,7 +89,7 @@ header_of words m l v = record {
   schema = get_or_from_slice_get words 4 0 0 l.schema;
 }
 
-same_layout : (words : List ℕ) (m n : Module) → IsLayout words m → IsFormed m → IsLayout words n → IsFormed n → m ≡ n
+pub same_layout : (words : List ℕ) (m n : Module) → IsLayout words m → IsFormed m → IsLayout words n → IsFormed n → m ≡ n
 same_layout words m n l f k g =
     same_module m.version n.version m.bound n.bound m.insts n.insts (sym (get_or_from_slice_get words 1 m.version 0 l.version) ∙ get_or_from_slice_get words 1 n.version 0 k.version)
     (sym (get_or_from_slice_get words 3 m.bound 0 l.bound) ∙ get_or_from_slice_get words 3 n.bound 0 k.bound) (same_insts words m.bound n.bound m.insts n.insts (read_of words m l f) (read_of words n k g) l.ends k.ends)

@@ -1,0 +1,141 @@
+#!/usr/bin/env python3
+"""Writes SPIR-V modules for a speed test of the checkers.
+
+    python3 bench/modules.py chain N ADDS OUT    N selections one after the other, with ADDS additions in each block
+    python3 bench/modules.py nested N OUT        N selections within each other, 1,023 at most
+    python3 bench/modules.py loops N OUT         N loops one after the other, each of a header and a continue target
+    python3 bench/modules.py switches N PAIRS OUT    N switches one after the other, of PAIRS cases each, each case with a block of its own
+
+50,000 selections of 32 additions make a module of about 2^24 words.
+"""
+
+import array
+import sys
+
+VOID, FUNCTION_TYPE, MAIN, BOOL, TRUE, WORD, ONE = range(1, 8)
+FIRST_FREE = 8
+LABEL, BRANCH, BRANCH_IF, SWITCH, RETURN = 248, 249, 250, 251, 253
+LOOP_MERGE, SELECTION_MERGE, ADD = 246, 247, 128
+
+
+class Module:
+    """The words of a module with one function; ids are taken in order."""
+
+    def __init__(self):
+        self.words = array.array("I", [0x07230203, 0x00010600, 0, 0, 0])
+        self.bound = FIRST_FREE
+        for opcode, operands in [
+            (17, [1]),
+            (14, [0, 1]),
+            (15, [5, MAIN, 0x6E69616D, 0]),
+            (16, [MAIN, 17, 1, 1, 1]),
+            (19, [VOID]),
+            (33, [FUNCTION_TYPE, VOID]),
+            (20, [BOOL]),
+            (41, [BOOL, TRUE]),
+            (21, [WORD, 32, 0]),
+            (43, [WORD, ONE, 1]),
+            (54, [VOID, MAIN, 0, FUNCTION_TYPE]),
+        ]:
+            self.put(opcode, *operands)
+
+    def put(self, opcode, *operands):
+        self.words.append((len(operands) + 1) << 16 | opcode)
+        self.words.extend(operands)
+
+    def take(self):
+        self.bound += 1
+        return self.bound - 1
+
+    def add(self, count):
+        before = ONE
+        for _ in range(count):
+            after = self.take()
+            self.put(ADD, WORD, after, before, ONE)
+            before = after
+
+    def finish(self, out):
+        self.put(56)
+        self.words[3] = self.bound
+        if sys.byteorder == "big":
+            self.words.byteswap()
+        with open(out, "wb") as file:
+            self.words.tofile(file)
+
+
+def chain(module, count, adds):
+    label = module.take()
+    for _ in range(count):
+        then, merge = module.take(), module.take()
+        module.put(LABEL, label)
+        module.add(adds)
+        module.put(SELECTION_MERGE, merge, 0)
+        module.put(BRANCH_IF, TRUE, then, merge)
+        module.put(LABEL, then)
+        module.add(adds)
+        module.put(BRANCH, merge)
+        label = merge
+    module.put(LABEL, label)
+    module.put(RETURN)
+
+
+def nested(module, count):
+    merges = []
+    label = module.take()
+    for _ in range(count):
+        then, merge = module.take(), module.take()
+        module.put(LABEL, label)
+        module.put(SELECTION_MERGE, merge, 0)
+        module.put(BRANCH_IF, TRUE, then, merge)
+        merges.append(merge)
+        label = then
+    for merge in reversed(merges):
+        module.put(LABEL, label)
+        module.put(BRANCH, merge)
+        label = merge
+    module.put(LABEL, label)
+    module.put(RETURN)
+
+
+def loops(module, count):
+    label = module.take()
+    for _ in range(count):
+        header, again, merge = module.take(), module.take(), module.take()
+        module.put(LABEL, label)
+        module.put(BRANCH, header)
+        module.put(LABEL, header)
+        module.put(LOOP_MERGE, merge, again, 0)
+        module.put(BRANCH_IF, TRUE, again, merge)
+        module.put(LABEL, again)
+        module.put(BRANCH, header)
+        label = merge
+    module.put(LABEL, label)
+    module.put(RETURN)
+
+
+def switches(module, count, pairs):
+    label = module.take()
+    for _ in range(count):
+        merge = module.take()
+        cases = [module.take() for _ in range(pairs)]
+        module.put(LABEL, label)
+        module.put(SELECTION_MERGE, merge, 0)
+        module.put(SWITCH, ONE, merge, *[word for pair in enumerate(cases) for word in pair])
+        for case in cases:
+            module.put(LABEL, case)
+            module.put(BRANCH, merge)
+        label = merge
+    module.put(LABEL, label)
+    module.put(RETURN)
+
+
+def main(words):
+    kinds = {"chain": (chain, 2), "nested": (nested, 1), "loops": (loops, 1), "switches": (switches, 2)}
+    if len(words) < 2 or words[0] not in kinds or len(words) != kinds[words[0]][1] + 2:
+        sys.exit(__doc__)
+    module = Module()
+    kinds[words[0]][0](module, *map(int, words[1:-1]))
+    module.finish(words[-1])
+
+
+main(sys.argv[1:])
