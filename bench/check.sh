@@ -7,26 +7,28 @@ program=crates/dxil_cli/out/dxil_cli
 folder=$(mktemp -d)
 trap 'rm -rf "$folder"' EXIT
 
-# compare NAME KIND NUMBERS...
+# compare TIMES NAME KIND NUMBERS...
 compare() {
-  local name=$1
-  shift
+  local times=$1 name=$2
+  shift 2
   python3 bench/modules.py "$@" "$folder/in.spv" || exit 1
   echo "$name: $(stat -c %s "$folder/in.spv") bytes"
-  for _ in 1 2 3; do
-    /usr/bin/time -f "  check %e s, %M KB" "$program" check "$folder/in.spv" || exit 1
+  for _ in $(seq "$times"); do
+    /usr/bin/time -f "  check %e s, %M KB" "$program" check "$folder/in.spv" >/dev/null || exit 1
     if command -v spirv-val >/dev/null 2>&1; then
       /usr/bin/time -f "  spirv-val %e s, %M KB" spirv-val --target-env vulkan1.3 "$folder/in.spv" >/dev/null || echo "  spirv-val refuses it"
     fi
   done
 }
 
-compare "25,000 selections of 32 additions" chain 25000 32
-compare "50,000 selections without additions" chain 50000 0
-compare "33,000 loops" loops 33000
-compare "1,023 nested selections" nested 1023
-compare "6 switches of 16,383 cases" switches 6 16383
-for count in 12500 25000 50000; do
-  python3 bench/modules.py chain "$count" 32 "$folder/in.spv" || exit 1
-  /usr/bin/time -f "$count selections of 32 additions: check %e s, %M KB" "$program" check "$folder/in.spv"
+compare 3 "5,000 selections of 32 additions" chain 5000 32
+compare 3 "5,000 selections without additions" chain 5000 0
+compare 3 "3,000 loops" loops 3000
+compare 3 "200 nested selections" nested 200
+compare 3 "5 switches of 16,383 cases" switches 5 16383
+compare 1 "25,000 selections of 32 additions" chain 25000 32
+for kind in "chain 12500 32" "chain 25000 32" "chain 50000 32" "chain 12500 0" "chain 25000 0" "chain 50000 0" "loops 8250" "loops 16500" "loops 33000" "switches 1 16383" "switches 3 16383" "switches 6 16383" "nested 1023"; do
+  # shellcheck disable=SC2086
+  python3 bench/modules.py $kind "$folder/in.spv" || exit 1
+  /usr/bin/time -f "$kind: check %e s, %U s of them its own, %M KB" "$program" check "$folder/in.spv" >/dev/null
 done

@@ -211,4 +211,5 @@ def main(words):
             file.write(bitcode)
 
 
-main(sys.argv[1:])
+if __name__ == "__main__":
+    main(sys.argv[1:])

@@ -1,8 +1,3 @@
-pub mod Walking
-pub mod Passing
-pub mod Table
-pub mod Wholeness
-pub mod Comparisons
 pub mod VerdictLaws
 pub mod Unique
 pub mod Answering

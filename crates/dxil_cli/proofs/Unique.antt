@@ -1,56 +1,61 @@
 -- There is one verdict on a file, and one text of its lines.
-use Rattle.std.proofs.Common.{ℕ, ◌≡◌, ◌*◌, ◌∙◌, sym, ap, subst, arith, List, [], ◌∷◌, slice_get, Some}
-use Rattle.dx_base.specs.declared.fault.Rule.TheVariants.{N, NotYet}
+use Rattle.std.proofs.Common.{ℕ, ◌≡◌, ◌∙◌, refl, sym, ap, subst, List, Option, Some, None}
+use Rattle.dx_base.specs.declared.fault.Fault.{Fault}
+use Rattle.dx_base.specs.declared.fault.Fault.TheVariants.{Refused, Limit}
+use Rattle.dx_base.specs.declared.fault.Rule.{Rule}
+use Rattle.dx_base.specs.declared.fault.Rule.TheVariants.{NotYet}
+use Rattle.dx_base.specs.declared.fault.Which.{Which}
 use Rattle.dxbc_container.specs.declared.part.Parts.{Parts}
-use Rattle.bitstream_spelling.specs.Framed.{bit_of}
 use Rattle.bitstream_spelling.specs.declared.item.Item.{Item}
-use Rattle.dx_file.specs.Layers.{refused}
+use Rattle.dx_file.specs.Layers.{refused, limited}
 use Rattle.dx_file.proofs.Answering.{refusal_unique, content_unique, content_sound}
 use Rattle.dx_show.specs.Lines.{lines}
 use Rattle.dx_show.specs.Showing.{IsShown}
-use Rattle.dxil_cli.specs.EmptyShader.{row_of, HasCount, IsShader, AreBadCounts, Fits}
-use Rattle.dxil_cli.specs.Compared.{compared}
-use Rattle.dxil_cli.specs.ModuleWords.{module_words}
-use Rattle.dxil_cli.specs.Verdicts.{Verdict, written, stopped, IsItemsVerdict, other_item, bad_counts, empty_shader, IsVerdict, by_layers, by_items}
-use Rattle.dxil_cli.proofs.Walking.{first_unique, first_none}
+use Rattle.llvm_shader.specs.declared.read.Shader.{Shader}
+use Rattle.llvm_shader.proofs.Uniqueness.{shader_unique, refusal_unique as module_refusal_unique, sound_no_refusal}
+use Rattle.dxil_cli.specs.Verdicts.{Verdict, written, stopped, departs, entry_lines, IsShaderVerdict, other_form, only_return, IsModuleVerdict, by_rule, by_limit, by_shader, IsVerdict, by_layers, by_module}
 
-same_entry : {A : Type 0} (xs : List A) (at : ℕ) (x y : A) → slice_get xs at ≡ Some x → slice_get xs at ≡ Some y → x ≡ y
-same_entry xs at x y a b = let both : Some x ≡ Some y = sym a ∙ b in cc
+same_bit : (o : Option ℕ) (a b : ℕ) → o ≡ Some a → o ≡ Some b → a ≡ b
+same_bit o a b e f = let both : Some a ≡ Some b = sym e ∙ f in cc
 
-same_twice : (n m : ℕ) → 2 * n ∷ [] ≡ 2 * m ∷ [] → n ≡ m
-same_twice n m e = let double : 2 * n ≡ 2 * m = cc in omega arith
+some_none : (o : Option ℕ) (a : ℕ) → o ≡ Some a → o ≡ None → ⊥
+some_none o a e f = let both : Some a ≡ None = sym e ∙ f in cc
 
-count_unique : (is : List Item) (fs : List ℕ) (at n m : ℕ) → HasCount is fs at n → HasCount is fs at m → n ≡ m
-count_unique is fs at n m a b = same_twice n m (sym a.twice ∙ ap (row_of fs) (same_entry is at a.item b.item a.stands b.stands) ∙ b.twice)
+shader_verdict_unique : (shader : Shader) (v w : Verdict) → IsShaderVerdict shader v → IsShaderVerdict shader w → v ≡ w
+shader_verdict_unique shader v w (other_form bit e) (other_form at f) = ap (λ (n : ℕ). stopped (refused NotYet n)) (same_bit (departs (entry_lines shader)) bit at e f)
+shader_verdict_unique shader v w (other_form bit e) (only_return f) = absurd (some_none (departs (entry_lines shader)) bit e f)
+shader_verdict_unique shader v w (only_return e) (other_form at f) = absurd (some_none (departs (entry_lines shader)) at f e)
+shader_verdict_unique shader v w (only_return e) (only_return f) = refl
 
-both_counts : (is : List Item) (fs : List ℕ) (x z u w : ℕ) → IsShader is fs x z → IsShader is fs u w → (x ≡ u) × (z ≡ w)
-both_counts is fs x z u w a b = (count_unique is fs _ x u a.first b.first, count_unique is fs _ z w a.third b.third)
+same_refused : (r q : Rule) (b c : ℕ) → Refused r b ≡ Refused q c → stopped (refused r b) ≡ stopped (refused q c)
+same_refused r q b c e = cc
 
-counts_differ : (is : List Item) (fs : List ℕ) (x z u w : ℕ) → IsShader is fs x z → IsShader is fs u w → AreBadCounts x 4 z → (AreBadCounts u 4 w → ⊥) → ⊥
-counts_differ is fs x z u w a b bad good =
-    let same = both_counts is fs x z u w a b in
-    good (subst (λ (k : ℕ). AreBadCounts u 4 k) same.1 (subst (λ (k : ℕ). AreBadCounts k 4 z) same.0 bad))
+same_limited : (w v : Which) (b c : ℕ) → Limit w b ≡ Limit v c → stopped (limited w b) ≡ stopped (limited v c)
+same_limited w v b c e = cc
 
-items_unique : (is : List Item) (fs : List ℕ) (v w : Verdict) → IsItemsVerdict is fs v → IsItemsVerdict is fs w → v ≡ w
-items_unique is fs v w (other_item i x a) (other_item j y b) = ap (λ (item : Item). stopped (refused NotYet (bit_of item))) (first_unique (Fits fs) is i j x y a b)
-items_unique is fs v w (other_item i x a) (bad_counts u k node s bad n) = absurd (first_none (Fits fs) is i x a s.fit)
-items_unique is fs v w (other_item i x a) (empty_shader u k s good) = absurd (first_none (Fits fs) is i x a s.fit)
-items_unique is fs v w (bad_counts u k node s bad n) (other_item i x a) = absurd (first_none (Fits fs) is i x a s.fit)
-items_unique is fs v w (bad_counts u k node s bad n) (bad_counts u2 k2 node2 s2 bad2 n2) = ap (λ (item : Item). stopped (refused (N 8) (bit_of item))) (same_entry is _ node node2 n n2)
-items_unique is fs v w (bad_counts u k node s bad n) (empty_shader u2 k2 s2 good) = absurd (counts_differ is fs u k u2 k2 s s2 bad good)
-items_unique is fs v w (empty_shader u k s good) (other_item i x a) = absurd (first_none (Fits fs) is i x a s.fit)
-items_unique is fs v w (empty_shader u k s good) (bad_counts u2 k2 node s2 bad n) = absurd (counts_differ is fs u2 k2 u k s2 s bad good)
-items_unique is fs v w (empty_shader u k s good) (empty_shader u2 k2 s2 good2) =
-    let same = both_counts is fs u k u2 k2 s s2 in
-    ap (λ (n : ℕ). written (module_words n 4 k)) same.0 ∙ ap (λ (n : ℕ). written (module_words u2 4 n)) same.1
+other_faults : (r : Rule) (w : Which) (b c : ℕ) → Refused r b ≡ Limit w c → ⊥
+other_faults r w b c e = cc
+
+module _ (is : List Item) (fs : List ℕ) where
+  module_verdict_unique : (v w : Verdict) → IsModuleVerdict is fs v → IsModuleVerdict is fs w → v ≡ w
+  module_verdict_unique v w (by_rule r b a) (by_rule q c d) = same_refused r q b c (module_refusal_unique is fs (Refused r b) (Refused q c) a d)
+  module_verdict_unique v w (by_rule r b a) (by_limit k c d) = absurd (other_faults r k b c (module_refusal_unique is fs (Refused r b) (Limit k c) a d))
+  module_verdict_unique v w (by_rule r b a) (by_shader s u i sound d) = absurd (sound_no_refusal is fs (Refused r b) sound a)
+  module_verdict_unique v w (by_limit k b a) (by_rule q c d) = absurd (other_faults q k c b (module_refusal_unique is fs (Refused q c) (Limit k b) d a))
+  module_verdict_unique v w (by_limit k b a) (by_limit l c d) = same_limited k l b c (module_refusal_unique is fs (Limit k b) (Limit l c) a d)
+  module_verdict_unique v w (by_limit k b a) (by_shader s u i sound d) = absurd (sound_no_refusal is fs (Limit k b) sound a)
+  module_verdict_unique v w (by_shader s u i sound d) (by_rule q c a) = absurd (sound_no_refusal is fs (Refused q c) sound a)
+  module_verdict_unique v w (by_shader s u i sound d) (by_limit k c a) = absurd (sound_no_refusal is fs (Limit k c) sound a)
+  module_verdict_unique v w (by_shader s u i sound d) (by_shader t x j also e) =
+      shader_verdict_unique t v w (subst (λ (k : Shader). IsShaderVerdict k v) (shader_unique is fs s t i j) d) e
 
 pub verdict_unique : (bytes : List ℕ) (v w : Verdict) → IsVerdict bytes v → IsVerdict bytes w → v ≡ w
 verdict_unique bytes v w (by_layers r a) (by_layers q b) = ap stopped (refusal_unique bytes r q a b)
-verdict_unique bytes v w (by_layers r a) (by_items parts is fs u c b) = absurd (content_sound bytes parts is fs r c a)
-verdict_unique bytes v w (by_items parts is fs u c a) (by_layers q b) = absurd (content_sound bytes parts is fs q c b)
-verdict_unique bytes v w (by_items parts is fs u c a) (by_items others js gs t d b) =
+verdict_unique bytes v w (by_layers r a) (by_module parts is fs u c b) = absurd (content_sound bytes parts is fs r c a)
+verdict_unique bytes v w (by_module parts is fs u c a) (by_layers q b) = absurd (content_sound bytes parts is fs q c b)
+verdict_unique bytes v w (by_module parts is fs u c a) (by_module others js gs t d b) =
     let same = content_unique bytes parts others is js fs gs c d in
-    items_unique (compared js) gs v w (subst (λ (hs : List ℕ). IsItemsVerdict (compared js) hs v) same.2 (subst (λ (ks : List Item). IsItemsVerdict (compared ks) fs v) same.1 a)) b
+    module_verdict_unique js gs v w (subst (λ (hs : List ℕ). IsModuleVerdict js hs v) same.2 (subst (λ (ks : List Item). IsModuleVerdict ks fs v) same.1 a)) b
 
 -- there is one text of lines
 pub shown_unique : (bytes text other : List ℕ) → IsShown bytes text → IsShown bytes other → text ≡ other

@@ -1,9 +1,5 @@
 pub mod Commands
 pub mod CommandLine
-pub mod FirstFailing
-pub mod EmptyShader
-pub mod Compared
-pub mod Comparing
 pub mod ModuleWords
 pub mod Verdicts
 pub mod Answers

@@ -2,8 +2,6 @@
 #![tactic(auto)]
 
 mod command_line;
-mod comparison;
-mod empty_shader;
 #[cfg(test)]
 mod example;
 mod module_words;

@@ -1,54 +1,76 @@
-ghost use Rattle.std.specs.Prelude.{◌≤◌, ◌^◌, ◌↔◌, length, IsTrue};
+ghost use Rattle.std.specs.Prelude.{◌≡◌, ◌≤◌, ◌^◌, length};
 ghost use Rattle.bitstream_spelling.specs.Framed.{IsFramed};
-ghost use Rattle.dxil_cli.specs.EmptyShader.{AreBadCounts};
-ghost use Rattle.dxil_cli.specs.Compared.{compared};
-ghost use Rattle.dxil_cli.specs.Comparing.{AreAll};
-ghost use Rattle.dxil_cli.specs.Verdicts.{ItemsAnswer, TranslateAnswer};
+ghost use Rattle.dxil_cli.specs.Verdicts.{is_return as returns_nothing, entry_lines as lines_of_entry, departs, IsShaderVerdict, IsModuleVerdict, VerdictAnswer, TranslateAnswer};
 
 #[cfg(test)]
 mod tests;
 
-use crate::comparison::compare;
-use crate::empty_shader::{counts_bit, threads_of};
 use crate::module_words::{Threads, module_of};
-use bitstream_spelling::{Item, Items};
+use bitstream_spelling::Items;
 use dx_base::{Fault, OutOfMemory, Rule, Words};
 use dx_file::read_file;
+use llvm_bodies::Line;
+use llvm_shader::{Shader, read_shader};
 use std::alloc::Global;
 
-/// Whether a count is 0 or too large, or the threads of a group are too many.
-fn are_bad(threads: Threads) -> bool
-    ensures { IsTrue result ↔ AreBadCounts threads.x threads.y threads.z }
+/// The code of a RET record in a body.
+const RET: u32 = 10;
+
+/// Whether the instruction is a RET without a value.
+fn is_return(line: &Line) -> bool
+    ensures { result ≡ returns_nothing line.now }
 {
-    let Threads { x, y, z } = threads;
-    x == 0 || y == 0 || z == 0 || x > 1024 || y > 1024 || z > 64 || x * y * z > 1024
+    line.code == RET && line.numbers.len() == 0
 }
 
-/// The words of the module that the items of the empty shader state.
-fn translate_shader(alloc: Global, fields: &[u64], items: &[Item]) -> Result<Words, Fault>
-    requires { AreAll items.now fields.now }
-    ensures { ItemsAnswer result items.now fields.now }
+/// The instructions of the entry function.
+fn entry_lines(shader: &Shader) -> &[Line]
+    ensures { result.now ≡ lines_of_entry shader.now }
 {
-    let threads = threads_of(fields, items);
-    if are_bad(threads) {
-        return Err(Fault::Refused {
-            rule: Rule::N(8),
-            bit: counts_bit(items),
-        });
-    }
-    match module_of(alloc, threads) {
-        Ok(words) => Ok(words),
-        Err(OutOfMemory) => Err(Fault::OutOfMemory),
+    match shader.records.bodies.get(shader.facts.body as usize) {
+        Some(body) => body.lines.as_slice(),
+        None => &[],
     }
 }
 
-/// The words of the module that the items of the bitcode state.
+/// The bit of the first instruction that is more than one RET without a value.
+fn departure_of(lines: &[Line]) -> Option<u64>
+    ensures { result ≡ departs lines.now }
+{
+    let first = lines.first()?;
+    if is_return(first) {
+        lines.get(1).map(|second| second.bit)
+    } else {
+        Some(first.bit)
+    }
+}
+
+/// The words of the module of a shader.
+fn translate_shader(alloc: Global, shader: &Shader) -> Result<Words, Fault>
+    ensures { VerdictAnswer (IsShaderVerdict shader.now) result }
+{
+    match departure_of(entry_lines(shader)) {
+        Some(bit) => Err(Fault::Refused {
+            rule: Rule::NotYet,
+            bit,
+        }),
+        None => {
+            let [x, y, z] = shader.facts.local;
+            match module_of(alloc, Threads { x, y, z }) {
+                Ok(words) => Ok(words),
+                Err(OutOfMemory) => Err(Fault::OutOfMemory),
+            }
+        }
+    }
+}
+
+/// The words of the module of the shader that the items of the bitcode state.
 fn translate_items(alloc: Global, items: &Items) -> Result<Words, Fault>
     requires { IsFramed items.now.list items.now.fields }
-    ensures { ItemsAnswer result (compared items.now.list) items.now.fields }
+    ensures { VerdictAnswer (IsModuleVerdict items.now.list items.now.fields) result }
 {
-    match compare(alloc, items) {
-        Ok(kept) => translate_shader(alloc, items.fields.as_slice(), kept.as_slice()),
+    match read_shader(alloc, items) {
+        Ok(shader) => translate_shader(alloc, &shader),
         Err(fault) => Err(fault),
     }
 }
@@ -57,7 +79,7 @@ fn translate_items(alloc: Global, items: &Items) -> Result<Words, Fault>
 ///
 /// # Errors
 ///
-/// The first refusal of the container, and behind it that of the bitstream, as `read_file` answers them. Where the file carries items, a form that the translator does not take yet at the first of them that departs from the empty shader's in another way than its thread counts; skipped blocks and blocks 0 are passed over. Else N8 where the thread counts break it. Or want of memory.
+/// The first refusal of the container, and behind it that of the bitstream, as `read_file` answers them. Where the file carries items, the first refusal of the module, as `read_shader` answers it. Where the module states a shader, a form that the translator does not take yet if the body of its entry function is more than one RET without a value: at the first instruction, if that is none, else at the second. Or want of memory.
 pub fn translate(alloc: Global, bytes: &[u8]) -> Result<Words, Fault>
     requires { length bytes.now ≤ 2 ^ 26 }
     ensures { TranslateAnswer result bytes.now }

@@ -28,6 +28,10 @@ is_module around = length around == 1 && get_or around 0 0 == 8
 abbrev pub is_within : ℕ → List ℕ → Bool
 is_within id around = length around == 2 && get_or around 0 0 == id && get_or around 1 0 == 8
 
+-- a block of the second id, which stands directly in a block of the first id of the module, is the innermost one
+abbrev pub is_inside : ℕ → ℕ → List ℕ → Bool
+is_inside outer id around = length around == 3 && get_or around 0 0 == id && get_or around 1 0 == outer && get_or around 2 0 == 8
+
 -- a record's code and its fields; 0 and none for any other item
 abbrev pub code_of : Item → ℕ
 code_of (Enter id width bit) = 0
@@ -70,3 +74,19 @@ enters id s = is_entry id s.item && is_module s.around
 -- the end of the module
 abbrev pub ends_module : Site → Bool
 ends_module s = is_end s.item && is_module s.around
+
+-- the end of a block of this id in the module
+abbrev pub ends : ℕ → Site → Bool
+ends id s = is_end s.item && is_within id s.around
+
+-- a record that stands directly in the module
+abbrev pub is_record_of_module : Site → Bool
+is_record_of_module s = is_record s.item && is_module s.around
+
+-- a record of a block of the second id that stands directly in a block of the first id of the module
+abbrev pub is_record_inside : ℕ → ℕ → Site → Bool
+is_record_inside outer id s = is_record s.item && is_inside outer id s.around
+
+-- the entry of a block of the second id directly in a block of the first id of the module
+abbrev pub enters_inside : ℕ → ℕ → Site → Bool
+enters_inside outer id s = is_entry id s.item && is_within outer s.around

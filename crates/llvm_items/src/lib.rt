@@ -7,4 +7,4 @@ mod item;
 mod tests;
 
 pub use blocks::OpenBlocks;
-pub use item::{bit_of, fields_of};
+pub use item::{bit_of, code_of, fields_of, is_end, is_entry, is_record};

@@ -22,11 +22,6 @@ TypesAnswer (Err (Refused (Y rule) bit)) is fs = IsFirst (Broken is fs) rule bit
 TypesAnswer (Err OutOfMemory) is fs = Unit {0}
 TypesAnswer (Err e) is fs = ⊥
 
--- the number of the first sentence that holds; None where none does
-abbrev pub IsFirstRule : Option ℕ → List Bool → Type 0
-IsFirstRule None bs = first_that_holds bs ≡ 0
-IsFirstRule (Some rule) bs = (first_that_holds bs ≡ rule) × (0 < rule)
-
 -- the list of types behind an item
 abbrev pub list_after : List ℕ → List LlvmType → Site → List LlvmType
 list_after fs list s = if is_numbered s then list ++ type_of (code_of s.item) (fields_of fs s.item) ∷ [] else list

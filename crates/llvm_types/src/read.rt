@@ -1,8 +1,9 @@
 ghost use Rattle.std.specs.Prelude.{ℕ, ◌≡◌, ◌+◌, ◌≤◌, ◌<◌, ◌^◌, length, IfOk, OnOk, if◌then◌else◌};
 ghost use Rattle.bitstream_spelling.specs.Framed.{LiesIn, IsFramed};
+ghost use Rattle.llvm_items.specs.FirstRule.{IsFirstRule};
 ghost use Rattle.llvm_types.specs.Types.{is_numbered, numbered};
 ghost use Rattle.llvm_types.specs.Rules.{tests};
-ghost use Rattle.llvm_types.specs.Reading.{IsFirstRule, IsKept, StepAnswer, TypesAnswer, rule_at};
+ghost use Rattle.llvm_types.specs.Reading.{IsKept, StepAnswer, TypesAnswer, rule_at};
 
 use crate::kind::{TypeList, Types, kind_of};
 use crate::table::{record_rule, takes_number};

@@ -1,7 +1,7 @@
 ghost use Rattle.std.specs.Prelude.{◌≡◌, ◌≤◌, ◌<◌, ◌∷◌, [], length, nat_lt, not, false};
 ghost use Rattle.std.specs.List.{list_all};
 ghost use Rattle.llvm_types.specs.Types.{takes_number as takes, is_listed as listed, least_of as least, type_numbers as numbers_in};
-ghost use Rattle.llvm_types.specs.Reading.{IsFirstRule};
+ghost use Rattle.llvm_items.specs.FirstRule.{IsFirstRule};
 
 use crate::code::{
     ARRAY, DOUBLE, FLOAT, FUNCTION, HALF, INTEGER, LABEL, METADATA, NUMENTRY, OPAQUE, POINTER,

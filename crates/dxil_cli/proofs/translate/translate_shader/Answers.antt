@@ -1,8 +1,8 @@
-use Rattle.dxil_cli.proofs.VerdictLaws.{bad_verdict, good_verdict}
+use Rattle.dxil_cli.proofs.VerdictLaws.{other_verdict, return_verdict}
 use Rattle.dxil_cli.proofs.translate.translate_shader.Goals as goal
 
-pub returns-then-are_bad : goal.returns-then-are_bad
-returns-then-are_bad c = bad_verdict _ _ _ _ _ _ _ c.threads_of-threads.ensures.shader c.threads_of-threads.ensures.second c.if-are_bad.true c.are_bad.ensures c.counts_bit.ensures
+pub returns-in-Some : goal.returns-in-Some
+returns-in-Some c = other_verdict _ _ _ c.entry_lines.ensures c.in-Some.ensures
 
 pub returns-in-Ok : goal.returns-in-Ok
-returns-in-Ok c = good_verdict _ _ _ _ _ _ _ c.threads_of-threads.ensures.shader c.threads_of-threads.ensures.second c.if-are_bad.false c.are_bad.ensures c.in-Ok.ensures
+returns-in-Ok c = return_verdict _ _ _ c.entry_lines.ensures c.in-None.ensures c.in-Ok.ensures

@@ -9,6 +9,22 @@ pub type Row<'a> = (u64, &'a [u64]);
 
 const TYPES: [Row<'static>; 5] = [(1, &[4]), (2, &[]), (21, &[0, 0]), (7, &[32]), (8, &[1, 0])];
 
+/// The NAME `dx.shaderModel`.
+pub const MODEL_NAME: Row<'static> = (
+    4,
+    &[
+        100, 120, 46, 115, 104, 97, 100, 101, 114, 77, 111, 100, 101, 108,
+    ],
+);
+
+/// The NAME `dx.entryPoints`.
+pub const ROOT_NAME: Row<'static> = (
+    4,
+    &[
+        100, 120, 46, 101, 110, 116, 114, 121, 80, 111, 105, 110, 116, 115,
+    ],
+);
+
 const METADATA: [Row<'static>; 16] = [
     (1, &[99, 115]),
     (2, &[2, 1]),
@@ -22,23 +38,19 @@ const METADATA: [Row<'static>; 16] = [
     (3, &[8, 7, 9]),
     (3, &[7, 10]),
     (3, &[5, 6, 0, 0, 11]),
-    (
-        4,
-        &[
-            100, 120, 46, 115, 104, 97, 100, 101, 114, 77, 111, 100, 101, 108,
-        ],
-    ),
+    MODEL_NAME,
     (10, &[3]),
-    (
-        4,
-        &[
-            100, 120, 46, 101, 110, 116, 114, 121, 80, 111, 105, 110, 116, 115,
-        ],
-    ),
+    ROOT_NAME,
     (10, &[11]),
 ];
 
 const BODY: [Row<'static>; 2] = [(1, &[1]), (10, &[])];
+
+/// The records of the module, its version and its function.
+const MODULE: [Row<'static>; 2] = [(1, &[1]), (8, &[1, 0, 0, 0])];
+
+/// The record at a place of the block with an id is replaced by these. The module is block 8, and its places are its version and its function.
+pub type Change<'a> = (u64, usize, &'a [Row<'a>]);
 
 /// Bits in stream order.
 #[derive(Drop)]
@@ -143,17 +155,44 @@ fn rows(alloc: Global, rows: &[Row]) -> Result<Bits, AllocError> {
     Ok(bits)
 }
 
-/// The constants, of which the fourth and fifth INTEGER have these fields.
-fn constants(alloc: Global, fourth: u64, fifth: u64) -> Result<Bits, AllocError> {
-    let all: [Row; 6] = [
-        (1, &[2]),
-        (4, &[12]),
-        (4, &[0]),
-        (4, &[8]),
-        (4, &[fourth]),
-        (4, &[fifth]),
-    ];
-    rows(alloc, &all)
+const CONSTANTS: [Row<'static>; 6] = [
+    (1, &[2]),
+    (4, &[12]),
+    (4, &[0]),
+    (4, &[8]),
+    (4, &[16]),
+    (4, &[2]),
+];
+
+/// Adds the record at a place of a block, or what it is replaced by.
+fn push_row(
+    bits: &mut Bits,
+    width: u32,
+    id: u64,
+    place: usize,
+    row: Row,
+    changes: &[Change],
+) -> Result<(), AllocError>
+    requires { width ≤ 32 }
+{
+    for (changed, at, others) in changes {
+        if *changed == id && *at == place {
+            for other in *others {
+                bits.record(width, *other)?;
+            }
+            return Ok(());
+        }
+    }
+    bits.record(width, row)
+}
+
+/// The content of a block.
+fn content(alloc: Global, id: u64, rows: &[Row], changes: &[Change]) -> Result<Bits, AllocError> {
+    let mut bits = Bits::new(alloc);
+    for (place, row) in rows.iter().enumerate() {
+        push_row(&mut bits, 4, id, place, *row, changes)?;
+    }
+    Ok(bits)
 }
 
 /// The container of one part with this bitcode.
@@ -181,19 +220,59 @@ fn container(alloc: Global, bitcode: &Bits) -> Result<Vec<u8>, AllocError> {
     bits.bytes(alloc)
 }
 
-/// The container of the empty shader whose fourth and fifth INTEGER have these fields.
-pub fn shader(alloc: Global, fourth: u64, fifth: u64) -> Result<Vec<u8>, AllocError> {
+/// The bitcode of the empty shader with these constants, with these bodies before its own, and with some changes.
+fn bitcode(
+    alloc: Global,
+    constants: Bits,
+    bodies: &[&[Row]],
+    changes: &[Change],
+) -> Result<Bits, AllocError> {
+    let [version, function] = MODULE;
     let mut module = Bits::new(alloc);
-    module.record(3, (1, &[1]))?;
-    module.block(3, 17, 4, rows(alloc, &TYPES)?)?;
-    module.record(3, (8, &[1, 0, 0, 0]))?;
-    module.block(3, 11, 4, constants(alloc, fourth, fifth)?)?;
-    module.block(3, 15, 4, rows(alloc, &METADATA)?)?;
-    module.block(3, 12, 4, rows(alloc, &BODY)?)?;
+    push_row(&mut module, 3, 8, 0, version, changes)?;
+    module.block(3, 17, 4, content(alloc, 17, &TYPES, changes)?)?;
+    push_row(&mut module, 3, 8, 1, function, changes)?;
+    module.block(3, 11, 4, constants)?;
+    module.block(3, 15, 4, content(alloc, 15, &METADATA, changes)?)?;
+    for body in bodies {
+        module.block(3, 12, 4, rows(alloc, *body)?)?;
+    }
+    module.block(3, 12, 4, content(alloc, 12, &BODY, changes)?)?;
     let mut bitcode = Bits::new(alloc);
     bitcode.fixed(0xDEC0_4342, 32)?;
     bitcode.block(2, 8, 3, module)?;
-    container(alloc, &bitcode)
+    Ok(bitcode)
+}
+
+/// The container of the empty shader with some changes, and with these bodies before its own.
+pub fn shader_behind(
+    alloc: Global,
+    bodies: &[&[Row]],
+    changes: &[Change],
+) -> Result<Vec<u8>, AllocError> {
+    let constants = content(alloc, 11, &CONSTANTS, changes)?;
+    container(alloc, &bitcode(alloc, constants, bodies, changes)?)
+}
+
+/// The container of the empty shader with some changes.
+pub fn shader(alloc: Global, changes: &[Change]) -> Result<Vec<u8>, AllocError> {
+    shader_behind(alloc, &[], changes)
+}
+
+/// The node of the thread counts names the sixth INTEGER as the second of them, by a further VALUE.
+const COUNTS: [Change<'static>; 2] = [
+    (15, 9, &[(3, &[8, 13, 9])]),
+    (15, 15, &[(10, &[11]), (2, &[2, 6])]),
+];
+
+/// The container of the empty shader whose thread counts are INTEGER records with these fields. The second stands behind the others, since the third INTEGER is the tag of the counts too.
+pub fn shader_of_threads(alloc: Global, threads: [u64; 3]) -> Result<Vec<u8>, AllocError> {
+    let [x, y, z] = threads;
+    let mut constants = rows(alloc, &CONSTANTS[..4])?;
+    for field in [x, z, y] {
+        constants.record(4, (4, &[field]))?;
+    }
+    container(alloc, &bitcode(alloc, constants, &[], &COUNTS)?)
 }
 
 /// A block 0 that gives to block 11 the abbreviation of a literal 4 and a number in chunks of 6 bits.

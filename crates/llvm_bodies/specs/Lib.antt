@@ -1,0 +1,4 @@
+pub mod Lists
+pub mod Bodies
+pub mod Rules
+pub mod Reading

@@ -1,0 +1,6 @@
+pub mod FaultLaws
+pub mod NumberLaws
+pub mod Numbers
+pub mod RootLaws
+pub mod RowLaws
+pub mod TagLaws

@@ -1,0 +1,9 @@
+pub mod Entry
+pub mod Facts
+pub mod Faults
+pub mod Module
+pub mod Roots
+pub mod Rows
+pub mod Rules
+pub mod Tags
+pub mod Values

@@ -1,0 +1,9 @@
+//! The records of a module: its values by number, and its bodies.
+#![tactic(auto)]
+
+mod facts;
+mod read;
+#[cfg(test)]
+mod tests;
+
+pub use read::{Records, read_module_records};

@@ -1,0 +1,2 @@
+pub mod Shader
+pub mod Laws
