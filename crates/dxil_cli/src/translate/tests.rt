@@ -3,7 +3,7 @@
 mod plain;
 
 use super::translate;
-use crate::example::{CONTAINER, MODULE};
+use crate::example::{CONTAINER, MODULE, VARIED};
 use dx_base::{Fault, Rule, Which};
 use plain::{
     Change, MODEL_NAME, ROOT_NAME, shader, shader_among_others, shader_behind, shader_of_threads,
@@ -392,6 +392,15 @@ fn skipped_blocks_and_blocks_0_are_passed_over(rt: HostRuntime) -> Result<(), Fa
     let bytes = shader_among_others(rt.alloc())?;
     assert!(rt; bytes.len() <= 400);
     let words = translate(rt.alloc(), bytes.as_slice())
+        .ok()
+        .ok_or("refused")?;
+    assert_eq!(rt; words.as_slice(), MODULE.as_slice());
+    Ok(())
+}
+
+#[test]
+fn forms_of_compilers_are_read(rt: HostRuntime) -> Result<(), Fail> {
+    let words = translate(rt.alloc(), VARIED.as_slice())
         .ok()
         .ok_or("refused")?;
     assert_eq!(rt; words.as_slice(), MODULE.as_slice());
