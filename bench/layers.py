@@ -4,7 +4,7 @@
     python3 bench/layers.py types N OUT       N more types, each a pointer to the one before
     python3 bench/layers.py metadata N OUT    N more nodes of metadata, each of the one before
     python3 bench/layers.py constants N OUT   N more constants of the module
-    python3 bench/layers.py phis N OUT        a body of N blocks behind the first, N at most 8,000; each has three phis of eight entries
+    python3 bench/layers.py phis N OUT        a body of N blocks behind the first, N at most 8,000; each has three phis of 11 entries, up to 262,144 in all
     python3 bench/layers.py records N OUT     N more constants of the body
 
 `translate` reads all layers of each and takes it, but for the phis, which it refuses as NotYet at the first instruction.
@@ -72,10 +72,11 @@ def shader(types=0, metadata=0, constants=0, body_constants=0, phis=0):
         for block in range(phis):
             stream.record(11, [block + 1])
             for _ in range(3):
-                if left >= 8:
-                    # the value 1 is counted back from the next number in signed form, without a phi's own step
-                    stream.record(16, [2] + [2, block] * 8)
-                    left -= 8
+                entries = min(left, 11)
+                # each names the value before its own
+                if entries:
+                    stream.record(16, [2] + [2, block] * entries)
+                left -= entries
     stream.record(10, [])
     stream.end()
     stream.end()
