@@ -3,7 +3,6 @@ use Rattle.std.proofs.Common.{◌≡◌, ◌∙◌, ℕ, List, Option, Some, sym
 use Rattle.dx_outside.specs.Outside.{Store}
 use Rattle.dx_file.proofs.Answering.{refusal_unique, content_sound}
 use Rattle.spirv_file.proofs.Refusals.{refusal_unique as word_refusal_unique, accepted_sound}
-use Rattle.spirv_words.specs.FileWords.{words_of}
 use Rattle.dxil_cli.specs.Commands.{Command, translate, show, check, unknown, source}
 use Rattle.dxil_cli.specs.Answers.{Answer, answer_to, refusal_answer, lines_answer, word_refusal_answer, IsTranslated, IsListed, by_lines, by_refusal, IsChecked, by_words, by_word_refusal, IsOfFile, too_long, of_bytes, IsAnswer}
 use Rattle.dxil_cli.specs.Runs.{Read, Tells}

@@ -1,6 +1,5 @@
 -- There is one verdict on a file, and one text of its lines.
 use Rattle.std.proofs.Common.{ℕ, ◌≡◌, ◌∙◌, refl, sym, ap, subst, List, Option, Some, None}
-use Rattle.dx_base.specs.declared.fault.Fault.{Fault}
 use Rattle.dx_base.specs.declared.fault.Fault.TheVariants.{Refused, Limit}
 use Rattle.dx_base.specs.declared.fault.Rule.{Rule}
 use Rattle.dx_base.specs.declared.fault.Rule.TheVariants.{NotYet}
@@ -13,7 +12,7 @@ use Rattle.dx_show.specs.Lines.{lines}
 use Rattle.dx_show.specs.Showing.{IsShown}
 use Rattle.llvm_shader.specs.declared.read.Shader.{Shader}
 use Rattle.llvm_shader.proofs.Uniqueness.{shader_unique, refusal_unique as module_refusal_unique, sound_no_refusal}
-use Rattle.dxil_cli.specs.Verdicts.{Verdict, written, stopped, departs, entry_lines, IsShaderVerdict, other_form, only_return, IsModuleVerdict, by_rule, by_limit, by_shader, IsVerdict, by_layers, by_module}
+use Rattle.dxil_cli.specs.Verdicts.{Verdict, stopped, departs, entry_lines, IsShaderVerdict, other_form, only_return, IsModuleVerdict, by_rule, by_limit, by_shader, IsVerdict, by_layers, by_module}
 
 same_bit : (o : Option ℕ) (a b : ℕ) → o ≡ Some a → o ≡ Some b → a ≡ b
 same_bit o a b e f = let both : Some a ≡ Some b = sym e ∙ f in cc
