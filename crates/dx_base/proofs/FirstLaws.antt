@@ -4,6 +4,13 @@ use Rattle.std.proofs.lemmas.Bool.{cases_lt}
 use Rattle.std.proofs.lemmas.Option.{slice_get_within}
 use Rattle.dx_base.specs.First.{IsFirst, IsSound, IsBroken, IsClear, Rises, IsLeast, IsUnbroken}
 
+-- there is one first
+pub first_unique : (Broken : ℕ → ℕ → Type 0) (r b s c : ℕ) → IsFirst Broken r b → IsFirst Broken s c → (r ≡ s) × (b ≡ c)
+first_unique Broken r b s c x y = elim (x.least s c y.broken) [
+  | inl h ↦ elim (y.least r b x.broken) [ inl g ↦ absurd (omega arith) | inr g ↦ absurd (omega (arith, g.0)) ]
+  | inr h ↦ elim (y.least r b x.broken) [ inl g ↦ absurd (omega (arith, h.0)) | inr g ↦ (omega (arith, h.1, g.1), h.0) ]
+]
+
 cases_order : (i j : ℕ) → (i < j) ⊎ ((j < i) ⊎ (i ≡ j))
 cases_order i j = elim (cases_lt i j) [
   | inl h ↦ inl h

@@ -1,5 +1,6 @@
 -- A file has at most one answer, and the readers of the two layers give it.
 use Rattle.std.proofs.Common.{ℕ, ◌≡◌, ◌*◌, inl, inr, sym, ap, subst, arith, List, Ok, Err}
+use Rattle.dx_base.proofs.FirstLaws.{first_unique}
 use Rattle.dx_base.specs.First.{IsFirst}
 use Rattle.dx_base.specs.declared.fault.Fault.{Fault}
 use Rattle.dx_base.specs.declared.fault.Fault.TheVariants.{Refused, Limit, OutOfMemory}
@@ -17,13 +18,6 @@ use Rattle.bitstream_spelling.proofs.Fronts.{whole_unique, whole_sound}
 use Rattle.dx_bitstream.specs.Answers.{ItemsAnswer}
 use Rattle.dx_file.specs.Layers.{Refusal, refused, limited, IsContent, IsFirstOfBitcode, IsFirstRefusal, of_container, of_bitcode, of_records, of_fields}
 use Rattle.dx_file.specs.Reading.{NoRefusal, NoContent, IsOnly, FaultAnswer}
-
--- there is one first
-pub first_unique : (Broken : ℕ → ℕ → Type 0) (r b s c : ℕ) → IsFirst Broken r b → IsFirst Broken s c → (r ≡ s) × (b ≡ c)
-first_unique Broken r b s c x y = elim (x.least s c y.broken) [
-  | inl h ↦ elim (y.least r b x.broken) [ inl g ↦ absurd (omega arith) | inr g ↦ absurd (omega (arith, g.0)) ]
-  | inr h ↦ elim (y.least r b x.broken) [ inl g ↦ absurd (omega (arith, h.0)) | inr g ↦ (omega (arith, h.1, g.1), h.0) ]
-]
 
 module _ (bytes : List ℕ) where
   first_of_both : (p q : Parts) (r b s c : ℕ) → IsFirstOfBitcode bytes p r b → IsFirstOfBitcode bytes q s c → (r ≡ s) × (b ≡ c)

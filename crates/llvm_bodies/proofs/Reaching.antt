@@ -15,7 +15,7 @@ use Rattle.bitstream_spelling.specs.Framed.{IsFramed, LiesIn, open_after, open_b
 use Rattle.bitstream_spelling.specs.Rules.{records, is_record}
 use Rattle.bitstream_spelling.specs.declared.item.Item.{Item}
 use Rattle.llvm_items.specs.Sites.{Site, sites, enters, ends, is_record_of, code_of, fields_of, bit_at}
-use Rattle.llvm_items.proofs.SiteLaws.{sites-append, behind-append, take-sites, site-at, length-sites, sites-rise}
+use Rattle.llvm_items.proofs.SiteLaws.{take-sites, site-at, length-sites, sites-rise, site_of, sites_more, open_more}
 use Rattle.llvm_layout.proofs.Unique.{only_reading}
 use Rattle.llvm_layout.specs.declared.letter.Around.{Around}
 use Rattle.llvm_layout.specs.declared.letter.Parts.{Parts}
@@ -33,15 +33,6 @@ use Rattle.llvm_bodies.specs.declared.progress.Progress.{Progress}
 use Rattle.llvm_bodies.specs.declared.line.Line.{Line}
 use Rattle.llvm_bodies.specs.declared.line.Body.{Body}
 use Rattle.llvm_bodies.specs.declared.read.Reader.{Reader}
-
-abbrev pub site_of : List Item → Item → Site
-site_of is x = record { around = open_behind [] is; item = x }
-
-sites_more : (is : List Item) (x : Item) → sites (is ++ x ∷ []) ≡ sites is ++ site_of is x ∷ []
-sites_more is x = sites-append [] is (x ∷ [])
-
-open_more : (is : List Item) (x : Item) → open_behind [] (is ++ x ∷ []) ≡ open_after (open_behind [] is) x
-open_more is x = behind-append [] is (x ∷ [])
 
 gate : (b u v : Bool) → (b ≡ true → u ≡ v) → (b && u) ≡ (b && v)
 gate true u v h = h refl

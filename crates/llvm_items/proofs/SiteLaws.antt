@@ -38,6 +38,16 @@ site-item p i [] s e = absurd (none_some s e)
 site-item p zero (x ∷ xs) s e = ap (λ (z : Site). Some z.item) (some_inj (record { around = p; item = x }) s e)
 site-item p (suc i) (x ∷ xs) s e = site-item (open_after p x) i xs s e
 
+-- the site of an item behind these items
+abbrev pub site_of : List Item → Item → Site
+site_of is x = record { around = open_behind [] is; item = x }
+
+pub sites_more : (is : List Item) (x : Item) → sites (is ++ x ∷ []) ≡ sites is ++ site_of is x ∷ []
+sites_more is x = sites-append [] is (x ∷ [])
+
+pub open_more : (is : List Item) (x : Item) → open_behind [] (is ++ x ∷ []) ≡ open_after (open_behind [] is) x
+open_more is x = behind-append [] is (x ∷ [])
+
 -- the bits of the sites rise, whatever the rules of a layer are
 pub sites-rise : (Breaks : List Site → Site → ℕ → Type 0) (is : List Item) (fs : List ℕ) → IsFramed is fs → Rises bit_at Breaks (sites is)
 sites-rise Breaks is fs f = record { rises = λ i j s t h a b. f.rises i j s.item t.item h (site-item [] i is s a) (site-item [] j is t b) }

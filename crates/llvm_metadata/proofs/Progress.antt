@@ -11,7 +11,7 @@ use Rattle.dx_base.proofs.SentenceLaws.{least_stated, none_stated}
 use Rattle.bitstream_spelling.specs.Framed.{IsFramed, bit_of, open_after, open_behind}
 use Rattle.bitstream_spelling.specs.declared.item.Item.{Item}
 use Rattle.llvm_items.specs.Sites.{Site, sites, code_of, fields_of, bit_at}
-use Rattle.llvm_items.proofs.SiteLaws.{sites-append, behind-append, take-sites, site-at, length-sites, sites-rise}
+use Rattle.llvm_items.proofs.SiteLaws.{take-sites, site-at, length-sites, sites-rise, site_of, sites_more, open_more}
 use Rattle.llvm_metadata.specs.Metadata.{is_numbered, numbered, items_of, bits_of, item_of, is_named, named_at, named_from, named_of, name_after, name_behind, end_from, IsMeta}
 use Rattle.llvm_metadata.specs.Reading.{HasRead, items_after, bits_after, named_after, end_after, IsNext, rule_at, StepAnswer, MetaAnswer}
 use Rattle.llvm_metadata.specs.Rules.{Broken, sentences, tests}
@@ -22,16 +22,6 @@ use Rattle.llvm_metadata.specs.declared.item.Named.{Named}
 use Rattle.dx_base.specs.declared.fault.Fault.{Fault}
 use Rattle.dx_base.specs.declared.fault.Fault.TheVariants.{Refused, Limit, OutOfMemory}
 use Rattle.dx_base.specs.declared.fault.Rule.TheVariants.{C, B, Y, M, N, P, NotYet}
-
--- the site of an item behind these items
-abbrev pub site_of : List Item → Item → Site
-site_of is x = record { around = open_behind [] is; item = x }
-
-sites_more : (is : List Item) (x : Item) → sites (is ++ x ∷ []) ≡ sites is ++ site_of is x ∷ []
-sites_more is x = sites-append [] is (x ∷ [])
-
-open_more : (is : List Item) (x : Item) → open_behind [] (is ++ x ∷ []) ≡ open_after (open_behind [] is) x
-open_more is x = behind-append [] is (x ∷ [])
 
 numbered_more : (is : List Item) (x : Item) → numbered (is ++ x ∷ []) ≡ numbered is ++ (if is_numbered (site_of is x) then site_of is x ∷ [] else [])
 numbered_more is x = ap (filter is_numbered) (sites_more is x) ∙ filter-append is_numbered (sites is) (site_of is x ∷ [])
@@ -82,28 +72,6 @@ end-append bit (x ∷ ss) s = end-append (end_after bit x) ss s
 
 end_more : (is : List Item) (x : Item) → end_from 0 (sites (is ++ x ∷ [])) ≡ end_after (end_from 0 (sites is)) (site_of is x)
 end_more is x = ap (end_from 0) (sites_more is x) ∙ end-append 0 (sites is) (site_of is x)
-
--- the count so far
-pub record IsCounting (list : List Item) (index : ℕ) (around : List ℕ) (count : ℕ) : Type 0 where
-  pub open_is : around ≡ open_behind [] (take index list)
-  pub count_is : count ≡ length (numbered (take index list))
-  pub small : count ≤ index
-
-count_if : (xs : List Site) (s : Site) (b : Bool) → length (xs ++ (if b then s ∷ [] else [])) ≡ (if b then length xs + 1 else length xs)
-count_if xs s true = length-append xs (s ∷ [])
-count_if xs s false = ap length (append-nil xs)
-
-pub counting_more : (list : List Item) (index : ℕ) (around : List ℕ) (count : ℕ) (d : Item) (now : ℕ) (next : List ℕ) → IsCounting list index around count → index < length list
-    → now ≡ (if is_numbered (record { around = around; item = get_or list index d }) then count + 1 else count) → now ≤ count + 1 → next ≡ open_after around (get_or list index d) → IsCounting list (index + 1) next now
-counting_more list index around count d now next c h n few p =
-    let x = get_or list index d in
-    let cut : take (index + 1) list ≡ take index list ++ x ∷ [] = take_more list index d h in
-    record {
-      open_is = p ∙ ap (λ q. open_after q x) c.open_is ∙ sym (open_more (take index list) x) ∙ ap (open_behind []) (sym cut);
-      count_is = n ∙ ap (λ q. if is_numbered (record { around = q; item = x }) then count + 1 else count) c.open_is ∙ ap (λ k. if is_numbered (site_of (take index list) x) then k + 1 else k) c.count_is
-          ∙ sym (count_if (numbered (take index list)) (site_of (take index list) x) (is_numbered (site_of (take index list) x))) ∙ ap length (sym (numbered_more (take index list) x)) ∙ ap (λ l. length (numbered l)) (sym cut);
-      small = omega (arith, c.small);
-    }
 
 has_more : (list : List Item) (fs : List ℕ) (index : ℕ) (old new : Reader) (d : Item) → HasRead (take index list) fs old → index < length list → IsNext old new fs (get_or list index d) → HasRead (take (index + 1) list) fs new
 has_more list fs index old new d c h n =

@@ -1,6 +1,7 @@
 -- A module states at most one shader, has at most one first refusal, and not both.
 use Rattle.std.proofs.Common.{ℕ, ◌≡◌, ◌∙◌, ◌<◌, ◌≤◌, inl, inr, refl, sym, ap, subst, arith, List, [], ◌∷◌, Option}
 use Rattle.std.proofs.lemmas.Bool.{cases_lt}
+use Rattle.dx_base.proofs.FirstLaws.{first_unique}
 use Rattle.dx_base.specs.First.{IsFirst, IsSound}
 use Rattle.dx_base.specs.declared.fault.Fault.{Fault}
 use Rattle.bitstream_spelling.specs.declared.item.Item.{Item}
@@ -85,12 +86,6 @@ module _ (m : ModuleFacts) (fs : List ℕ) where
   bodies_unique ss xs ys x y = each_unique (IsBody m fs) body_unique (ended ss) xs ys x y
 
 -- ---- there is one first
-first_unique : (Broken : ℕ → ℕ → Type 0) (r b s c : ℕ) → IsFirst Broken r b → IsFirst Broken s c → (r ≡ s) × (b ≡ c)
-first_unique Broken r b s c x y = elim (x.least s c y.broken) [
-  | inl h ↦ elim (y.least r b x.broken) [ inl g ↦ absurd (omega arith) | inr g ↦ absurd (omega (arith, g.0)) ]
-  | inr h ↦ elim (y.least r b x.broken) [ inl g ↦ absurd (omega (arith, h.0)) | inr g ↦ (omega (arith, h.1, g.1), h.0) ]
-]
-
 by_number_unique : (Broken : ℕ → ℕ → Type 0) (r b s c : ℕ) → IsFirstByNumber Broken r b → IsFirstByNumber Broken s c → (r ≡ s) × (b ≡ c)
 by_number_unique Broken r b s c x y = (number, bits number) where
   number : r ≡ s

@@ -1,5 +1,5 @@
 -- What the reader has after one more item.
-use Rattle.std.proofs.Common.{ℕ, ◌≡◌, ◌+◌, ◌<◌, ◌≤◌, refl, sym, ap, ◌∙◌, subst, arith, List, [], ◌∷◌, ◌++◌, length, take, get_or, slice_get, map, Some, Bool, true, false, ◌||◌, Err, if◌then◌else◌, append-nil, length-append, take_all}
+use Rattle.std.proofs.Common.{ℕ, ◌≡◌, ◌+◌, ◌<◌, ◌≤◌, refl, sym, ap, ◌∙◌, subst, arith, List, [], ◌∷◌, ◌++◌, length, take, get_or, slice_get, map, Some, Bool, true, false, ◌||◌, Err, if◌then◌else◌, append-nil, take_all}
 use Rattle.std.proofs.lemmas.List.{take_more, map-append}
 use Rattle.std.proofs.lemmas.List.Elements.{filter-append}
 use Rattle.std.proofs.lemmas.List.Folds.{list_any-append}
@@ -9,10 +9,10 @@ use Rattle.dx_base.specs.First.{IsFirst, IsSound, IsClear}
 use Rattle.dx_base.specs.Sentences.{first_that_holds, Stated}
 use Rattle.dx_base.proofs.FirstLaws.{clear_none, clear_more, first_here, sound_of}
 use Rattle.dx_base.proofs.SentenceLaws.{least_stated, none_stated}
-use Rattle.bitstream_spelling.specs.Framed.{IsFramed, bit_of, open_after, open_behind}
+use Rattle.bitstream_spelling.specs.Framed.{IsFramed, bit_of, open_after}
 use Rattle.bitstream_spelling.specs.declared.item.Item.{Item}
 use Rattle.llvm_items.specs.Sites.{Site, sites, enters, code_of, fields_of, bit_at}
-use Rattle.llvm_items.proofs.SiteLaws.{sites-append, behind-append, take-sites, site-at, length-sites, sites-rise}
+use Rattle.llvm_items.proofs.SiteLaws.{take-sites, site-at, length-sites, sites-rise, site_of, sites_more, open_more}
 use Rattle.llvm_types.specs.Types.{is_numbered, numbered, types_of, type_of}
 use Rattle.llvm_types.specs.Reading.{HasRead, list_after, IsNext, rule_at, StepAnswer, TypesAnswer}
 use Rattle.llvm_types.specs.Rules.{Broken, sentences, tests}
@@ -21,16 +21,6 @@ use Rattle.dx_base.specs.declared.fault.Fault.{Fault}
 use Rattle.dx_base.specs.declared.fault.Fault.TheVariants.{Refused, Limit, OutOfMemory}
 use Rattle.dx_base.specs.declared.fault.Rule.TheVariants.{C, B, Y, M, N, P, NotYet}
 use Rattle.llvm_types.specs.declared.kind.LlvmType.{LlvmType}
-
--- the site of an item behind these items
-abbrev pub site_of : List Item → Item → Site
-site_of is x = record { around = open_behind [] is; item = x }
-
-sites_more : (is : List Item) (x : Item) → sites (is ++ x ∷ []) ≡ sites is ++ site_of is x ∷ []
-sites_more is x = sites-append [] is (x ∷ [])
-
-open_more : (is : List Item) (x : Item) → open_behind [] (is ++ x ∷ []) ≡ open_after (open_behind [] is) x
-open_more is x = behind-append [] is (x ∷ [])
 
 numbered_more : (is : List Item) (x : Item) → numbered (is ++ x ∷ []) ≡ numbered is ++ (if is_numbered (site_of is x) then site_of is x ∷ [] else [])
 numbered_more is x = ap (filter is_numbered) (sites_more is x) ∙ filter-append is_numbered (sites is) (site_of is x ∷ [])
@@ -48,28 +38,6 @@ types_if fs xs s false = ap (map (λ z. type_of (code_of z.item) (fields_of fs z
 
 types_more : (fs : List ℕ) (is : List Item) (x : Item) → types_of (is ++ x ∷ []) fs ≡ list_after fs (types_of is fs) (site_of is x)
 types_more fs is x = ap (map (λ z. type_of (code_of z.item) (fields_of fs z.item))) (numbered_more is x) ∙ types_if fs (numbered is) (site_of is x) (is_numbered (site_of is x))
-
--- the count so far
-pub record IsCounting (list : List Item) (index : ℕ) (around : List ℕ) (count : ℕ) : Type 0 where
-  pub open_is : around ≡ open_behind [] (take index list)
-  pub count_is : count ≡ length (numbered (take index list))
-  pub small : count ≤ index
-
-count_if : (xs : List Site) (s : Site) (b : Bool) → length (xs ++ (if b then s ∷ [] else [])) ≡ (if b then length xs + 1 else length xs)
-count_if xs s true = length-append xs (s ∷ [])
-count_if xs s false = ap length (append-nil xs)
-
-pub counting_more : (list : List Item) (index : ℕ) (around : List ℕ) (count : ℕ) (d : Item) (now : ℕ) (next : List ℕ) → IsCounting list index around count → index < length list
-    → now ≡ (if is_numbered (record { around = around; item = get_or list index d }) then count + 1 else count) → now ≤ count + 1 → next ≡ open_after around (get_or list index d) → IsCounting list (index + 1) next now
-counting_more list index around count d now next c h n few p =
-    let x = get_or list index d in
-    let cut : take (index + 1) list ≡ take index list ++ x ∷ [] = take_more list index d h in
-    record {
-      open_is = p ∙ ap (λ q. open_after q x) c.open_is ∙ sym (open_more (take index list) x) ∙ ap (open_behind []) (sym cut);
-      count_is = n ∙ ap (λ q. if is_numbered (record { around = q; item = x }) then count + 1 else count) c.open_is ∙ ap (λ k. if is_numbered (site_of (take index list) x) then k + 1 else k) c.count_is
-          ∙ sym (count_if (numbered (take index list)) (site_of (take index list) x) (is_numbered (site_of (take index list) x))) ∙ ap length (sym (numbered_more (take index list) x)) ∙ ap (λ l. length (numbered l)) (sym cut);
-      small = omega (arith, c.small);
-    }
 
 has_more : (list : List Item) (fs : List ℕ) (index : ℕ) (old new : Reader) (d : Item) → HasRead (take index list) fs old.around old.begun old.list → index < length list → IsNext old new fs (get_or list index d)
     → HasRead (take (index + 1) list) fs new.around new.begun new.list

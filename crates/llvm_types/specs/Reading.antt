@@ -1,5 +1,5 @@
 -- What the reader of the types has read and answers.
-use Rattle.std.specs.Prelude.{ℕ, ◌≡◌, ◌<◌, List, [], ◌∷◌, ◌++◌, ◌||◌, Bool, if◌then◌else◌, Result, Ok, Err, Option, Some, None}
+use Rattle.std.specs.Prelude.{ℕ, ◌≡◌, ◌<◌, List, [], ◌∷◌, ◌++◌, ◌||◌, Bool, if◌then◌else◌, Result, Ok, Err}
 use Rattle.std.specs.List.{list_any}
 use Rattle.llvm_items.specs.Sites.{Site, sites, enters, code_of, fields_of}
 use Rattle.bitstream_spelling.specs.Framed.{bit_of, open_after, open_behind}

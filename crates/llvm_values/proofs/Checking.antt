@@ -14,7 +14,7 @@ use Rattle.dx_base.specs.declared.fault.Rule.TheVariants.{C, B, Y, M, N, P, NotY
 use Rattle.bitstream_spelling.specs.Framed.{IsFramed, bit_of, open_after, open_behind}
 use Rattle.bitstream_spelling.specs.declared.item.Item.{Item}
 use Rattle.llvm_items.specs.Sites.{Site, sites, enters, bit_at}
-use Rattle.llvm_items.proofs.SiteLaws.{take-sites, site-at, length-sites, sites-rise}
+use Rattle.llvm_items.proofs.SiteLaws.{take-sites, site-at, length-sites, sites-rise, site_of, sites_more, open_more}
 use Rattle.llvm_types.specs.Types.{types_of}
 use Rattle.llvm_types.specs.declared.kind.LlvmType.{LlvmType}
 use Rattle.llvm_values.specs.declared.rule.State.{State}
@@ -22,7 +22,6 @@ use Rattle.llvm_values.specs.declared.check.RuleReader.{RuleReader}
 use Rattle.llvm_values.specs.Values.{since}
 use Rattle.llvm_values.specs.Rules.{Broken, is_instruction, is_version, sentences, state_behind, tests}
 use Rattle.llvm_values.specs.Reading.{IsPassed, RulesAnswer, StepAnswer, rule_at, state_after}
-use Rattle.llvm_values.proofs.Fronts.{site_of, sites_more, open_more}
 use Rattle.llvm_values.proofs.Listing.{since_more, type_more}
 
 or_false : (b : Bool) → (b || false) ≡ b

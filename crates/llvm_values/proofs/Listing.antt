@@ -9,14 +9,13 @@ use Rattle.std.specs.Option.{option_map}
 use Rattle.bitstream_spelling.specs.Framed.{IsFramed, open_after, open_behind}
 use Rattle.bitstream_spelling.specs.declared.item.Item.{Item}
 use Rattle.llvm_items.specs.Sites.{Site, sites}
-use Rattle.llvm_items.proofs.SiteLaws.{length-sites, take-sites, site-at}
+use Rattle.llvm_items.proofs.SiteLaws.{length-sites, take-sites, site-at, site_of, sites_more, open_more}
 use Rattle.llvm_types.specs.declared.kind.LlvmType.{LlvmType}
 use Rattle.llvm_values.specs.declared.global.Global.{Global}
 use Rattle.llvm_values.specs.declared.list.ListReader.{ListReader}
 use Rattle.llvm_values.specs.Values.{since, sets_type, enters_constants, type_set, type_behind, type_after, has_body, takes_value, value_stated, value_of, values_from, values_of, value_count, name_in, symbol_of}
 use Rattle.llvm_values.specs.Reading.{IsTable, IsNext, list_after}
-use Rattle.llvm_values.proofs.Fronts.{site_of, sites_more, open_more}
-use Rattle.llvm_values.proofs.Counts.{count_more}
+use Rattle.llvm_items.proofs.Counts.{count_more}
 
 -- ---- what stands since a place
 

@@ -8,10 +8,10 @@ use Rattle.std.specs.List.{find}
 use Rattle.std.specs.Option.{option_map, option_or}
 use Rattle.bitstream_spelling.specs.Framed.{IsFramed, LiesIn, open_after, open_behind}
 use Rattle.bitstream_spelling.specs.declared.item.Item.{Item}
+use Rattle.llvm_items.proofs.SiteLaws.{site_of, sites_more, open_more}
 use Rattle.llvm_items.specs.Sites.{Site, sites}
 use Rattle.llvm_values.specs.Values.{names, symbol_of}
 use Rattle.llvm_values.specs.Reading.{IsTable, IsNoted, LiesIfAny}
-use Rattle.llvm_values.proofs.Fronts.{site_of, sites_more, open_more}
 
 either : (a : Option Site) (s : Site) (b : Bool) → option_map (λ (z : Site). z.item) (option_or a (if b then Some s else None)) ≡ option_or (option_map (λ (z : Site). z.item) a) (if b then Some s.item else None)
 either (Some z) s b = refl

@@ -1,5 +1,6 @@
 -- A file holds at most one module, and its answers are the ones of the readers of its words.
 use Rattle.std.proofs.Common.{ℕ, ◌≡◌, ◌%◌, inl, inr, refl, sym, subst, arith, List, length, Result, Ok, Err}
+use Rattle.dx_base.proofs.FirstLaws.{first_unique}
 use Rattle.dx_base.specs.First.{IsFirst, IsSound}
 use Rattle.spv_form.specs.WordRules.{IsModule, Broken as BrokenWords}
 use Rattle.spv_form.specs.declared.module.Module.{Module}
@@ -14,13 +15,6 @@ use Rattle.module_rules.specs.Rules.{Broken as BrokenModule}
 use Rattle.structure_rules.specs.Blocks.{Broken as BrokenStructure}
 use Rattle.structure_rules.specs.Checking.{CheckAnswer}
 use Rattle.spirv_file.specs.Checking.{Holds, IsAccepted, IsFirstRefusal, of_words, of_module, of_structure, FileAnswer}
-
--- there is one first
-first_unique : (Broken : ℕ → ℕ → Type 0) (r b s c : ℕ) → IsFirst Broken r b → IsFirst Broken s c → (r ≡ s) × (b ≡ c)
-first_unique Broken r b s c x y = elim (x.least s c y.broken) [
-  | inl h ↦ elim (y.least r b x.broken) [ inl g ↦ absurd (omega arith) | inr g ↦ absurd (omega (arith, g.0)) ]
-  | inr h ↦ elim (y.least r b x.broken) [ inl g ↦ absurd (omega (arith, h.0)) | inr g ↦ (omega (arith, h.1, g.1), h.0) ]
-]
 
 module _ (bytes : List ℕ) where
   one_module : (m n : Module) → Holds bytes m → Holds bytes n → n ≡ m

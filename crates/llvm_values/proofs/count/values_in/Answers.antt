@@ -1,5 +1,5 @@
 use Rattle.llvm_values.specs.Values.{takes_value}
-use Rattle.llvm_values.proofs.Counts.{counting_more}
+use Rattle.llvm_items.proofs.Counts.{counting_more}
 use Rattle.llvm_values.proofs.count.values_in.Goals as goal
 
 pub loop-item-preserved : goal.loop-item-preserved

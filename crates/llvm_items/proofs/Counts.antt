@@ -1,12 +1,12 @@
 -- Counts of the sites of the first items of a list.
 use Rattle.std.proofs.Common.{ℕ, ◌≡◌, ◌∙◌, ◌+◌, ◌<◌, ◌≤◌, ap, sym, arith, List, [], ◌∷◌, ◌++◌, length, take, get_or, Bool, true, false, if◌then◌else◌, take_all}
 use Rattle.std.proofs.lemmas.List.{take_more}
-use Rattle.std.proofs.lemmas.List.Sums.{sum_by-append}
-use Rattle.std.specs.List.{count_by}
+use Rattle.std.proofs.lemmas.List.Sums.{sum_by-append, length-filter}
+use Rattle.std.specs.List.{count_by, filter}
 use Rattle.bitstream_spelling.specs.Framed.{open_after, open_behind}
 use Rattle.bitstream_spelling.specs.declared.item.Item.{Item}
 use Rattle.llvm_items.specs.Sites.{Site, sites}
-use Rattle.llvm_values.proofs.Fronts.{site_of, sites_more, open_more}
+use Rattle.llvm_items.proofs.SiteLaws.{site_of, sites_more, open_more}
 
 one_more : (n : ℕ) (b : Bool) → n + (0 + (if b then 1 else 0)) ≡ (if b then n + 1 else n)
 one_more n true = omega arith
@@ -40,3 +40,6 @@ counting_more p list index around count d now next test c h n t e =
 
 pub counting_ends : (p : Site → Bool) (list : List Item) (index : ℕ) (around : List ℕ) (count : ℕ) → IsCounting p list index around count → length list ≤ index → count ≡ count_by p (sites list)
 counting_ends p list index around count c h = c.count_is ∙ ap (λ (is : List Item). count_by p (sites is)) (take_all index list h)
+
+pub counting_listed : (p : Site → Bool) (list : List Item) (index : ℕ) (around : List ℕ) (count : ℕ) → IsCounting p list index around count → length list ≤ index → count ≡ length (filter p (sites list))
+counting_listed p list index around count c h = counting_ends p list index around count c h ∙ sym (length-filter p (sites list))
