@@ -195,12 +195,13 @@ pub fn listing_for(alloc: Global, bytes: &[u8]) -> Result<Output, AllocError>
 }
 
 /// All that `check` says for a file of these bytes, at most 2^26.
-pub fn report_for(alloc: Global, bytes: &[u8]) -> Result<Output, AllocError>
-    requires { length bytes.now ≤ 2 ^ 26 }
-    ensures { IfOk result (λ output. IsReport bytes.now output) }
+pub fn report_for(alloc: Global, bytes: Bytes) -> Result<Output, AllocError>
+    requires { length bytes ≤ 2 ^ 26 }
+    ensures { IfOk result (λ output. IsReport bytes output) }
 {
+    let count = bytes.len() / 4;
     match check_file(alloc, bytes) {
-        Ok(()) => accepted(alloc, bytes.len() / 4),
+        Ok(()) => accepted(alloc, count),
         Err(CheckFault::Refused { rule, word }) => word_refusal(alloc, rule, word),
         Err(CheckFault::OutOfMemory) => Err(AllocError),
     }

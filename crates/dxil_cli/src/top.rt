@@ -89,7 +89,7 @@ fn check_words<F: Files, S: Sink>(alloc: Global, from: &str, files: &mut F, out:
     ensures sink_counts { SinkNeverFell (S.seen out.old) (S.seen out.new) }
 {
     match read_whole(alloc, files, from) {
-        Whole::Read(bytes) => match report_for(alloc, bytes.as_slice()) {
+        Whole::Read(bytes) => match report_for(alloc, bytes) {
             Ok(output) => conclude(output.status, output.text.as_slice(), out),
             Err(_) => Status::OutOfMemory,
         },

@@ -6,7 +6,7 @@ use Rattle.dxil_cli.proofs.top.check_words.Goals as goal
 
 pub returns-in-Ok-clause-leaves : goal.returns-in-Ok-clause-leaves
 returns-in-Ok-clause-leaves g c = checked_leaves c.args.from.now c.in-Read.bytes c.in-Ok.output (g.F.Files.seen c.args.files.now) (g.F.Files.seen c.read_whole.new.files) (g.S.Sink.seen c.args.out.now) (g.S.Sink.seen c.conclude.new.out)
-    c.conclude.result c.read_whole.ensures.same c.in-Read.ensures.answer.1 c.in-Read.ensures.answer.0 (rw c.as_slice.ensures at c.in-Ok.ensures) (rw c.as_slice-in-Ok.ensures at c.conclude.ensures.answer)
+    c.conclude.result c.read_whole.ensures.same c.in-Read.ensures.answer.1 c.in-Read.ensures.answer.0 c.in-Ok.ensures (rw c.as_slice.ensures at c.conclude.ensures.answer)
 
 pub returns-in-TooLong-clause-leaves : goal.returns-in-TooLong-clause-leaves
 returns-in-TooLong-clause-leaves g c = limited_leaves (check c.args.from.now) c.args.from.now _ (g.F.Files.seen c.args.files.now) (g.F.Files.seen c.read_whole.new.files)
