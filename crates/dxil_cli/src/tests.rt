@@ -89,17 +89,28 @@ fn empty_shader_has_these_words(rt: HostRuntime) -> Result<(), Fail> {
     Ok(())
 }
 
+/// Which call of the files and of the sink fails, and then the status of `translate`, whether it wrote its file, and what it said.
+const TRANSLATE_FAILS: [(u64, u64, Status, bool, &[u8]); 6] = [
+    (0, NEVER, Status::ReadFault, false, b""),
+    (1, NEVER, Status::ReadFault, false, b""),
+    (2, NEVER, Status::WriteFault, false, b""),
+    (3, NEVER, Status::Done, true, TRANSLATED),
+    (NEVER, 0, Status::SayFault, true, b""),
+    (NEVER, 1, Status::Done, true, TRANSLATED),
+];
+
+/// The same of `show`, which reads twice, never writes a file, and says its lines in one call.
+const SHOW_FAILS: [(u64, u64, Status, &[u8]); 5] = [
+    (0, NEVER, Status::ReadFault, b""),
+    (1, NEVER, Status::ReadFault, b""),
+    (2, NEVER, Status::Done, SHOWN),
+    (NEVER, 0, Status::SayFault, b""),
+    (NEVER, 1, Status::Done, SHOWN),
+];
+
 #[test]
 fn each_call_fails_in_turn(rt: HostRuntime) -> Result<(), Fail> {
-    let table = [
-        (0, NEVER, Status::ReadFault, false, b"".as_slice()),
-        (1, NEVER, Status::ReadFault, false, b""),
-        (2, NEVER, Status::WriteFault, false, b""),
-        (3, NEVER, Status::Done, true, TRANSLATED),
-        (NEVER, 0, Status::SayFault, true, b""),
-        (NEVER, 1, Status::Done, true, TRANSLATED),
-    ];
-    for (files_fail, sink_fails, status, written, said) in table {
+    for (files_fail, sink_fails, status, written, said) in TRANSLATE_FAILS {
         let (ended, has, out) = attempt(
             rt.alloc(),
             &TRANSLATE,
@@ -111,15 +122,7 @@ fn each_call_fails_in_turn(rt: HostRuntime) -> Result<(), Fail> {
         assert_eq!(rt; has.map(|bytes| bytes.len()), written.then_some(152));
         assert_eq!(rt; out.taken(), said);
     }
-    // `show` reads twice, never writes a file, and says its lines in one call
-    let table = [
-        (0, NEVER, Status::ReadFault, b"".as_slice()),
-        (1, NEVER, Status::ReadFault, b""),
-        (2, NEVER, Status::Done, SHOWN),
-        (NEVER, 0, Status::SayFault, b""),
-        (NEVER, 1, Status::Done, SHOWN),
-    ];
-    for (files_fail, sink_fails, status, said) in table {
+    for (files_fail, sink_fails, status, said) in SHOW_FAILS {
         let (ended, has, out) = attempt(rt.alloc(), &SHOW, &SMALL, files_fail, sink_fails)?;
         assert_eq!(rt; ended, status, "files {files_fail}, sink {sink_fails}");
         assert!(rt; has.is_none());
@@ -128,31 +131,34 @@ fn each_call_fails_in_turn(rt: HostRuntime) -> Result<(), Fail> {
     Ok(())
 }
 
+const REFUSED: &[u8] = b"refused C1 bit 0\n";
+
+/// The words, which call of the sink fails, and then the status over a file without bytes, and what was said.
+const NO_BYTES: [(&[&str], u64, Status, &[u8]); 19] = [
+    (&[], NEVER, Status::Usage, USAGE),
+    (&["translate", "a"], NEVER, Status::Usage, USAGE),
+    (&["Translate", "a", "b"], NEVER, Status::Usage, USAGE),
+    (&["translate", "a", "b", "c"], NEVER, Status::Usage, USAGE),
+    (&["show"], NEVER, Status::Usage, USAGE),
+    (&["Show", "a"], NEVER, Status::Usage, USAGE),
+    (&["show", "a", "b"], NEVER, Status::Usage, USAGE),
+    (&[], 0, Status::SayFault, b""),
+    (&TRANSLATE, NEVER, Status::Refused, REFUSED),
+    (&TRANSLATE, 0, Status::SayFault, b""),
+    (&["translate", "c", "b"], NEVER, Status::ReadFault, b""),
+    (&SHOW, NEVER, Status::Refused, REFUSED),
+    (&SHOW, 0, Status::SayFault, b""),
+    (&["show", "c"], NEVER, Status::ReadFault, b""),
+    (&["check"], NEVER, Status::Usage, USAGE),
+    (&["check", "a", "b"], NEVER, Status::Usage, USAGE),
+    (&CHECK, NEVER, Status::Refused, b"refused W1 word 0\n"),
+    (&CHECK, 0, Status::SayFault, b""),
+    (&["check", "c"], NEVER, Status::ReadFault, b""),
+];
+
 #[test]
 fn other_answers_change_no_file(rt: HostRuntime) -> Result<(), Fail> {
-    let refused = b"refused C1 bit 0\n".as_slice();
-    let table = [
-        ([].as_slice(), NEVER, Status::Usage, USAGE),
-        (&["translate", "a"], NEVER, Status::Usage, USAGE),
-        (&["Translate", "a", "b"], NEVER, Status::Usage, USAGE),
-        (&["translate", "a", "b", "c"], NEVER, Status::Usage, USAGE),
-        (&["show"], NEVER, Status::Usage, USAGE),
-        (&["Show", "a"], NEVER, Status::Usage, USAGE),
-        (&["show", "a", "b"], NEVER, Status::Usage, USAGE),
-        (&[], 0, Status::SayFault, b""),
-        (&TRANSLATE, NEVER, Status::Refused, refused),
-        (&TRANSLATE, 0, Status::SayFault, b""),
-        (&["translate", "c", "b"], NEVER, Status::ReadFault, b""),
-        (&SHOW, NEVER, Status::Refused, refused),
-        (&SHOW, 0, Status::SayFault, b""),
-        (&["show", "c"], NEVER, Status::ReadFault, b""),
-        (&["check"], NEVER, Status::Usage, USAGE),
-        (&["check", "a", "b"], NEVER, Status::Usage, USAGE),
-        (&CHECK, NEVER, Status::Refused, b"refused W1 word 0\n"),
-        (&CHECK, 0, Status::SayFault, b""),
-        (&["check", "c"], NEVER, Status::ReadFault, b""),
-    ];
-    for (words, sink_fails, status, said) in table {
+    for (words, sink_fails, status, said) in NO_BYTES {
         let (ended, has, out) = attempt(rt.alloc(), words, b"", NEVER, sink_fails)?;
         assert_eq!(rt; ended, status, "{words:?}");
         assert!(rt; has.is_none(), "{words:?}");
@@ -172,63 +178,99 @@ fn changed(alloc: Global, bytes: &[u8], changes: &[(usize, u8)]) -> Result<Vec<u
     Ok(all)
 }
 
+/// A file's bytes, how many of them it has, those that are set, what `translate` says of it, and what `show` says, where that is something else.
+type FileCase = (
+    &'static [u8],
+    usize,
+    &'static [(usize, u8)],
+    &'static [u8],
+    &'static [u8],
+);
+
+const FILES: [FileCase; 12] = [
+    // these two end their modules at 661 and 683 without a block 17
+    (&SMALL, 84, &[], b"refused Y1 bit 661\n", SHOWN),
+    (
+        &ABBREVIATED,
+        88,
+        &[],
+        b"refused Y1 bit 683\n",
+        b"part DXIL at 36 size 44\nblock 8 bit 576\nrecord 2 fields 1 bit 674\n",
+    ),
+    (&SMALL, 83, &[], b"refused C3 bit 192\n", b""),
+    (&SMALL, 83, &[(24, 83)], b"refused C5 bit 320\n", b""),
+    (
+        &SMALL,
+        83,
+        &[(24, 83), (40, 39)],
+        b"refused C9 bit 480\n",
+        b"",
+    ),
+    (&NO_PART, 32, &[], b"refused C6 bit 256\n", b""),
+    (
+        &CONTAINER,
+        272,
+        &[(56, 3), (57, 1)],
+        b"refused C8 bit 448\n",
+        b"",
+    ),
+    (&SMALL, 84, &[(68, 0)], b"refused B1 bit 544\n", b""),
+    (
+        &SMALL,
+        84,
+        &[(73, 0x10), (80, 9)],
+        b"refused B3 bit 640\n",
+        b"",
+    ),
+    (&SMALL, 84, &[(76, 2)], b"refused B5 bit 576\n", b""),
+    (&SMALL, 84, &[(73, 0x04)], b"refused B8 bit 576\n", b""),
+    (&SMALL, 31, &[], b"refused C1 bit 0\n", b""),
+];
+
+/// Compares what `translate` and `show` say of a file that `translate` refuses.
+fn expect_lines(
+    rt: &HostRuntime,
+    bytes: &[u8],
+    changes: &[(usize, u8)],
+    translated: &[u8],
+    shown: &[u8],
+) -> Result<(), Fail> {
+    let bytes = changed(rt.alloc(), bytes, changes)?;
+    let bytes = bytes.as_slice();
+    let (status, written, out) = attempt(rt.alloc(), &TRANSLATE, bytes, NEVER, NEVER)?;
+    assert_eq!(rt; status, Status::Refused, "{changes:?}");
+    assert!(rt; written.is_none(), "{changes:?}");
+    assert_eq!(rt; out.taken(), translated, "{changes:?}");
+    let (status, written, out) = attempt(rt.alloc(), &SHOW, bytes, NEVER, NEVER)?;
+    let done = !shown.is_empty();
+    assert_eq!(rt; status == Status::Done, done, "{changes:?}");
+    assert_eq!(rt; status == Status::Refused, !done, "{changes:?}");
+    assert!(rt; written.is_none(), "{changes:?}");
+    assert_eq!(rt;
+        out.taken(),
+        if done { shown } else { translated },
+        "{changes:?}"
+    );
+    Ok(())
+}
+
 #[test]
 fn files_have_these_answers(rt: HostRuntime) -> Result<(), Fail> {
+    for (bytes, length, changes, translated, shown) in FILES {
+        let bytes = &bytes[..length.min(bytes.len())];
+        expect_lines(&rt, bytes, changes, translated, shown)?;
+    }
+    Ok(())
+}
+
+#[test]
+fn a_second_dxil_part_is_refused(rt: HostRuntime) -> Result<(), Fail> {
     let mut two = TWO_PARTS.to_vec(rt.alloc())?;
     two.extend_from_slice(&SMALL[36..])?;
     two.extend_from_slice(&SMALL[36..])?;
-    let two = two.as_slice();
-    // the file and its bytes that are set, what `translate` says of it, and `show`, where that is something else
-    let table: [(&[u8], &[(usize, u8)], &[u8], &[u8]); 14] = [
-        // these two end their modules at 661 and 683 without a block 17
-        (&SMALL, &[], b"refused Y1 bit 661\n", SHOWN),
-        (
-            &ABBREVIATED,
-            &[],
-            b"refused Y1 bit 683\n",
-            b"part DXIL at 36 size 44\nblock 8 bit 576\nrecord 2 fields 1 bit 674\n",
-        ),
-        (&SMALL[..83], &[], b"refused C3 bit 192\n", b""),
-        (&SMALL[..83], &[(24, 83)], b"refused C5 bit 320\n", b""),
-        (
-            &SMALL[..83],
-            &[(24, 83), (40, 39)],
-            b"refused C9 bit 480\n",
-            b"",
-        ),
-        (&NO_PART, &[], b"refused C6 bit 256\n", b""),
-        (two, &[], b"refused C7 bit 288\n", b""),
-        (two, &[(92, 41)], b"refused C7 bit 288\n", b""),
-        (
-            &CONTAINER,
-            &[(56, 3), (57, 1)],
-            b"refused C8 bit 448\n",
-            b"",
-        ),
-        (&SMALL, &[(68, 0)], b"refused B1 bit 544\n", b""),
-        (&SMALL, &[(73, 0x10), (80, 9)], b"refused B3 bit 640\n", b""),
-        (&SMALL, &[(76, 2)], b"refused B5 bit 576\n", b""),
-        (&SMALL, &[(73, 0x04)], b"refused B8 bit 576\n", b""),
-        (&SMALL[..31], &[], b"refused C1 bit 0\n", b""),
-    ];
-    for (bytes, changes, translated, shown) in table {
-        let bytes = changed(rt.alloc(), bytes, changes)?;
-        let bytes = bytes.as_slice();
-        let (status, written, out) = attempt(rt.alloc(), &TRANSLATE, bytes, NEVER, NEVER)?;
-        assert_eq!(rt; status, Status::Refused, "{changes:?}");
-        assert!(rt; written.is_none(), "{changes:?}");
-        assert_eq!(rt; out.taken(), translated, "{changes:?}");
-        let (status, written, out) = attempt(rt.alloc(), &SHOW, bytes, NEVER, NEVER)?;
-        let done = !shown.is_empty();
-        assert_eq!(rt; status == Status::Done, done, "{changes:?}");
-        assert_eq!(rt; status == Status::Refused, !done, "{changes:?}");
-        assert!(rt; written.is_none(), "{changes:?}");
-        assert_eq!(rt;
-            out.taken(),
-            if done { shown } else { translated },
-            "{changes:?}"
-        );
-    }
+    let refused = b"refused C7 bit 288\n".as_slice();
+    expect_lines(&rt, two.as_slice(), &[], refused, b"")?;
+    expect_lines(&rt, two.as_slice(), &[(92, 41)], refused, b"")?;
     Ok(())
 }
 
@@ -247,67 +289,66 @@ fn bytes_of_words(alloc: Global, words: &[u32], changes: &[(usize, u32)]) -> Res
     Ok(bytes)
 }
 
+/// The words of a file, those that are set, how many bytes it has, and the status of `check` and what it says.
+type WordCase = (
+    &'static [u32],
+    &'static [(usize, u32)],
+    usize,
+    Status,
+    &'static [u8],
+);
+
+const WORDS: [WordCase; 9] = [
+    (&MODULE, &[], 152, Status::Done, b"checked 38 words\n"),
+    (
+        &MODULE,
+        &[(37, 0x0002_0038)],
+        152,
+        Status::Refused,
+        b"refused W5 word 37\n",
+    ),
+    (
+        &MODULE,
+        &[(3, 4)],
+        152,
+        Status::Refused,
+        b"refused W9 word 21\n",
+    ),
+    (
+        &MODULE,
+        &[(18, 0)],
+        152,
+        Status::Refused,
+        b"refused V12 word 15\n",
+    ),
+    (&MODULE, &[], 151, Status::Refused, b"refused W1 word 0\n"),
+    (&MODULE, &[(2, 7)], 152, Status::Done, b"checked 38 words\n"),
+    (
+        &SHARED_MERGE,
+        &[],
+        248,
+        Status::Refused,
+        b"refused S3 word 47\n",
+    ),
+    (
+        &SHARED_MERGE,
+        &[(48, 8)],
+        248,
+        Status::Refused,
+        b"refused S10 word 50\n",
+    ),
+    (
+        &SHARED_MERGE,
+        &[(18, 0)],
+        248,
+        Status::Refused,
+        b"refused V12 word 15\n",
+    ),
+];
+
 #[test]
 fn words_have_these_answers(rt: HostRuntime) -> Result<(), Fail> {
-    // the merge block of the inner selection made a block of its own, which stands before label 8
-    let mut nested = SHARED_MERGE[..54].to_vec(rt.alloc())?;
-    nested.extend_from_slice(&[0x0002_00F8, 10, 0x0002_00F9, 8])?;
-    nested.extend_from_slice(&SHARED_MERGE[54..])?;
-    let table: [(&[u32], &[(usize, u32)], usize, Status, &[u8]); 10] = [
-        (&MODULE, &[], 152, Status::Done, b"checked 38 words\n"),
-        (
-            &MODULE,
-            &[(37, 0x0002_0038)],
-            152,
-            Status::Refused,
-            b"refused W5 word 37\n",
-        ),
-        (
-            &MODULE,
-            &[(3, 4)],
-            152,
-            Status::Refused,
-            b"refused W9 word 21\n",
-        ),
-        (
-            &MODULE,
-            &[(18, 0)],
-            152,
-            Status::Refused,
-            b"refused V12 word 15\n",
-        ),
-        (&MODULE, &[], 151, Status::Refused, b"refused W1 word 0\n"),
-        (&MODULE, &[(2, 7)], 152, Status::Done, b"checked 38 words\n"),
-        (
-            &SHARED_MERGE,
-            &[],
-            248,
-            Status::Refused,
-            b"refused S3 word 47\n",
-        ),
-        (
-            &SHARED_MERGE,
-            &[(48, 8)],
-            248,
-            Status::Refused,
-            b"refused S10 word 50\n",
-        ),
-        (
-            &SHARED_MERGE,
-            &[(18, 0)],
-            248,
-            Status::Refused,
-            b"refused V12 word 15\n",
-        ),
-        (
-            nested.as_slice(),
-            &[(3, 11), (48, 8), (52, 10), (53, 8)],
-            264,
-            Status::Done,
-            b"checked 66 words\n",
-        ),
-    ];
-    for (words, changes, length, status, said) in table {
+    for (words, changes, length, status, said) in WORDS {
         let bytes = bytes_of_words(rt.alloc(), words, changes)?;
         assert!(rt; length <= bytes.len());
         let (ended, written, out) = attempt(rt.alloc(), &CHECK, &bytes[..length], NEVER, NEVER)?;
@@ -315,6 +356,22 @@ fn words_have_these_answers(rt: HostRuntime) -> Result<(), Fail> {
         assert!(rt; written.is_none(), "{changes:?}");
         assert_eq!(rt; out.taken(), said, "{changes:?}");
     }
+    Ok(())
+}
+
+#[test]
+fn a_merge_block_of_its_own_is_accepted(rt: HostRuntime) -> Result<(), Fail> {
+    // the merge block of the inner selection made a block of its own, which stands before label 8
+    let mut nested = SHARED_MERGE[..54].to_vec(rt.alloc())?;
+    nested.extend_from_slice(&[0x0002_00F8, 10, 0x0002_00F9, 8])?;
+    nested.extend_from_slice(&SHARED_MERGE[54..])?;
+    let changes = [(3, 11), (48, 8), (52, 10), (53, 8)];
+    let bytes = bytes_of_words(rt.alloc(), nested.as_slice(), &changes)?;
+    assert_eq!(rt; bytes.len(), 264);
+    let (ended, written, out) = attempt(rt.alloc(), &CHECK, bytes.as_slice(), NEVER, NEVER)?;
+    assert_eq!(rt; ended, Status::Done);
+    assert!(rt; written.is_none());
+    assert_eq!(rt; out.taken(), b"checked 66 words\n".as_slice());
     Ok(())
 }
 
