@@ -1,10 +1,14 @@
 #!/usr/bin/env python3
-"""Writes SPIR-V modules for a speed test of the checkers.
+"""Writes SPIR-V modules for a test of the checkers' speed and memory.
 
     python3 bench/modules.py chain N ADDS OUT    N selections one after the other, with ADDS additions in each block
     python3 bench/modules.py nested N OUT        N selections within each other, 1,023 at most
     python3 bench/modules.py loops N OUT         N loops one after the other, each of a header and a continue target
     python3 bench/modules.py switches N PAIRS OUT    N switches one after the other, of PAIRS cases each, each case with a block of its own
+    python3 bench/modules.py path N OUT          N blocks, each of which branches to the next
+    python3 bench/modules.py bare N OUT          N blocks that return at once and that nothing branches to
+    python3 bench/modules.py constants N OUT     N constants
+    python3 bench/modules.py names N OUT         N constants, each with a name of one letter
 
 50,000 selections of 32 additions make a module of about 2^24 words.
 """
@@ -21,20 +25,22 @@ LOOP_MERGE, SELECTION_MERGE, ADD = 246, 247, 128
 class Module:
     """The words of a module with one function; ids are taken in order."""
 
-    def __init__(self):
+    def __init__(self, constants=0, named=False):
         self.words = array.array("I", [0x07230203, 0x00010600, 0, 0, 0])
-        self.bound = FIRST_FREE
+        self.bound = FIRST_FREE + constants
         for opcode, operands in [
             (17, [1]),
             (14, [0, 1]),
             (15, [5, MAIN, 0x6E69616D, 0]),
             (16, [MAIN, 17, 1, 1, 1]),
+            *[(5, [FIRST_FREE + i, ord("a")]) for i in range(constants) if named],
             (19, [VOID]),
             (33, [FUNCTION_TYPE, VOID]),
             (20, [BOOL]),
             (41, [BOOL, TRUE]),
             (21, [WORD, 32, 0]),
             (43, [WORD, ONE, 1]),
+            *[(43, [WORD, FIRST_FREE + i, i]) for i in range(constants)],
             (54, [VOID, MAIN, 0, FUNCTION_TYPE]),
         ]:
             self.put(opcode, *operands)
@@ -129,12 +135,43 @@ def switches(module, count, pairs):
     module.put(RETURN)
 
 
+def path(module, count):
+    label = module.take()
+    for _ in range(count - 1):
+        after = module.take()
+        module.put(LABEL, label)
+        module.put(BRANCH, after)
+        label = after
+    module.put(LABEL, label)
+    module.put(RETURN)
+
+
+def bare(module, count):
+    for _ in range(count):
+        module.put(LABEL, module.take())
+        module.put(RETURN)
+
+
 def main(words):
-    kinds = {"chain": (chain, 2), "nested": (nested, 1), "loops": (loops, 1), "switches": (switches, 2)}
+    kinds = {
+        "chain": (chain, 2),
+        "nested": (nested, 1),
+        "loops": (loops, 1),
+        "switches": (switches, 2),
+        "path": (path, 1),
+        "bare": (bare, 1),
+        "constants": (bare, 1),
+        "names": (bare, 1),
+    }
     if len(words) < 2 or words[0] not in kinds or len(words) != kinds[words[0]][1] + 2:
         sys.exit(__doc__)
-    module = Module()
-    kinds[words[0]][0](module, *map(int, words[1:-1]))
+    kind, numbers = words[0], [int(word) for word in words[1:-1]]
+    if kind in ("constants", "names"):
+        module = Module(numbers[0], kind == "names")
+        bare(module, 1)
+    else:
+        module = Module()
+        kinds[kind][0](module, *numbers)
     module.finish(words[-1])
 
 
