@@ -1,6 +1,6 @@
 //! The greatest number of a range, by the greatest numbers of aligned chunks of 16, 256, 4096 and so on.
 
-ghost use Rattle.std.specs.Prelude.{◌≡◌, ◌+◌, ◌-◌, ◌*◌, ◌<◌, ◌≤◌, ◌^◌, ◌↔◌, ℕ, length, IfOk, IsTrue};
+ghost use Rattle.std.specs.Prelude.{◌≡◌, ◌+◌, ◌<◌, ◌≤◌, ◌^◌, ◌↔◌, length, IfOk, IsTrue};
 ghost use Rattle.flow_scans.specs.Ranges.{IsMost, AreMaxima, AreLevels, Exceeds};
 
 use dx_base::OutOfMemory;
@@ -118,7 +118,7 @@ impl RangeMax {
         Ok(RangeMax { values, levels })
     }
 
-    /// Tells whether a number in the range `from..to` is above the bound.
+    /// Tells whether a number in the range `from..to` is above the bound, in logarithmic time.
     pub fn exceeds(&self, from: usize, to: usize, bound: u32) -> bool
         requires { to ≤ length self.now }
         ensures { IsTrue result ↔ Exceeds self.now from to bound }

@@ -1,6 +1,6 @@
 //! Lists of numbers in which long stretches are equal.
 
-ghost use Rattle.std.specs.Prelude.{◌≡◌, ◌≢◌, ◌⊎◌, ◌-◌, ◌<◌, ◌≤◌, ◌^◌, ◌↔◌, ℕ, length, slice_index, nat_le, IfOk, IsTrue};
+ghost use Rattle.std.specs.Prelude.{◌≡◌, ◌<◌, ◌^◌, ◌↔◌, length, slice_index, nat_le, IfOk, IsTrue};
 ghost use Rattle.flow_scans.specs.Runs.{Begins};
 
 use dx_base::OutOfMemory;
@@ -13,6 +13,8 @@ pub struct Run {
     first: u32,
     number: u32,
 }
+
+const _: () = prove!(size_of::<Run>() == 8);
 
 /// A list of numbers that takes memory only where a number differs from the one before. Contracts see the numbers.
 #[derive(Debug, Drop)]
