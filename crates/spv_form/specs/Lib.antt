@@ -1,3 +1,4 @@
+pub mod Held
 pub mod Shapes
 pub mod Operands
 pub mod Formed

@@ -4,8 +4,12 @@
 mod fault;
 mod module;
 pub mod op;
+mod operands;
 mod shape;
+#[cfg(test)]
+mod tests;
 
 pub use fault::{CheckFault, WordRule};
 pub use module::{Inst, InstList, Module, VERSION_1_6};
+pub use operands::Operands;
 pub use shape::{Shape, shape_of};

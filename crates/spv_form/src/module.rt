@@ -1,11 +1,15 @@
-use dx_base::{List, Words};
+use crate::operands::Operands;
+use dx_base::List;
+use std::mem::size_of;
 
 /// An instruction: its opcode and the words behind its first word (SPIR-V 1.6, section 2.3).
 #[derive(Clone, Debug, Drop)]
 pub struct Inst {
     pub opcode: u16,
-    pub operands: Words,
+    pub operands: Operands,
 }
+
+const _: () = prove!(size_of::<Inst>() == 24);
 
 /// The instructions of a module, in word order.
 pub type InstList = List<Inst>;
