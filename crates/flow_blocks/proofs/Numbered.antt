@@ -1,18 +1,17 @@
 -- Blocks with numbers in place of labels name blocks of the list, and their words rise as before.
-use Rattle.std.proofs.Common.{ℕ, ◌≡◌, ◌<◌, refl, sym, ap, ◌∙◌, subst, arith, List, length, get_or, slice_get, map, position, Contains, Option, Some, None}
+use Rattle.std.proofs.Common.{ℕ, ◌≡◌, ◌<◌, refl, sym, ap, ◌∙◌, subst, arith, List, length, slice_get, map, position, Contains, Option, Some, None}
 use Rattle.std.proofs.lemmas.List.{length-map}
 use Rattle.std.proofs.lemmas.List.Quantifiers.{position-Some}
 use Rattle.std.proofs.lemmas.Option.{slice_get-map, slice_get-get_or, slice_get_within, get_or_from_slice_get}
 use Rattle.std.specs.Option.{option_map, unwrap_or}
-use Rattle.flow_rules.specs.declared.block.BasicBlock.{BasicBlock}
+use Rattle.flow_rules.specs.Blocks.{BasicBlock}
 use Rattle.flow_rules.specs.declared.block.Merge.{Merge}
 use Rattle.flow_rules.specs.declared.block.MergeKind.{MergeKind}
 use Rattle.flow_rules.specs.declared.block.MergeKind.TheVariants.{Selection, Loop}
 use Rattle.flow_rules.specs.Flow.{At, StructuralEdge, by_branch, by_merge, by_continue}
 use Rattle.flow_rules.specs.Rules.{IsNumbered, AreInOrder}
-use Rattle.flow_blocks.specs.Blocks.{block_of}
-use Rattle.flow_blocks.specs.declared.read.Labeled.{Labeled}
-use Rattle.structure_rules.specs.Blocks.{has_label, number_of, numbered_kind, numbered_merge, numbered_block, numbered}
+use Rattle.flow_blocks.specs.Blocks.{Labeled, block_of}
+use Rattle.flow_blocks.specs.Numbered.{has_label, number_of, numbered_kind, numbered_merge, numbered_block, numbered}
 
 none_some : {A : Type 0} (x : A) → None ≡ Some x → ⊥
 none_some x e = cc
@@ -49,11 +48,11 @@ number_small ls id d some = small_or ls (position (has_label id) ls) some (λ k 
 
 module _ (ls : List Labeled) where
   pub length_is : length (numbered ls) ≡ length ls
-  length_is = length-map ls (λ (l : Labeled). numbered_block ls l.block)
+  length_is = length-map ls (λ (l : Labeled). numbered_block (number_of ls) l.block)
 
   -- the labeled block under a numbered one
-  under : (p : ℕ) (b : BasicBlock) → At (numbered ls) p b → Source (λ (l : Labeled). numbered_block ls l.block) (slice_get ls p) b
-  under p b at = source_at (λ (l : Labeled). numbered_block ls l.block) ls p b at
+  under : (p : ℕ) (b : BasicBlock) → At (numbered ls) p b → Source (λ (l : Labeled). numbered_block (number_of ls) l.block) (slice_get ls p) b
+  under p b at = source_at (λ (l : Labeled). numbered_block (number_of ls) l.block) ls p b at
 
   before : (p : ℕ) (l : Labeled) → slice_get ls p ≡ Some l → At (map block_of ls) p l.block
   before p l e = slice_get-map block_of ls p ∙ ap (λ (o : Option Labeled). option_map block_of o) e
@@ -61,7 +60,7 @@ module _ (ls : List Labeled) where
   named_small : (p id : ℕ) (l : Labeled) → slice_get ls p ≡ Some l → number_of ls id < length (numbered ls)
   named_small p id l e = let h = slice_get_within ls p l e in omega (arith, number_small ls id l (omega (arith, h)), length_is)
 
-  loop_number : (k : MergeKind) (q : ℕ) → numbered_kind ls k ≡ Loop q → (c : ℕ) × (number_of ls c ≡ q)
+  loop_number : (k : MergeKind) (q : ℕ) → numbered_kind (number_of ls) k ≡ Loop q → (c : ℕ) × (number_of ls c ≡ q)
   loop_number Selection q e = absurd (no_loop e) where
     no_loop : Selection ≡ Loop q → ⊥
     no_loop h = cc
@@ -77,11 +76,11 @@ module _ (ls : List Labeled) where
       subst (λ (n : ℕ). n < length (numbered ls)) s.is (named_small p s.x u.x u.there)
   edge_small p q (by_merge g h e) =
       let u = under p h.block h.at in
-      let s = source (numbered_merge ls) u.x.block.merge g (ap (λ (b : BasicBlock). b.merge) u.is ∙ h.merge) in
+      let s = source (numbered_merge (number_of ls)) u.x.block.merge g (ap (λ (b : BasicBlock). b.merge) u.is ∙ h.merge) in
       subst (λ (n : ℕ). n < length (numbered ls)) (ap (λ (m : Merge). m.merge_block) s.is ∙ e) (named_small p s.x.merge_block u.x u.there)
   edge_small p q (by_continue g l) =
       let u = under p l.header.block l.header.at in
-      let s = source (numbered_merge ls) u.x.block.merge g (ap (λ (b : BasicBlock). b.merge) u.is ∙ l.header.merge) in
+      let s = source (numbered_merge (number_of ls)) u.x.block.merge g (ap (λ (b : BasicBlock). b.merge) u.is ∙ l.header.merge) in
       let c = loop_number s.x.kind q (ap (λ (m : Merge). m.kind) s.is ∙ l.kind) in
       subst (λ (n : ℕ). n < length (numbered ls)) c.1 (named_small p c.0 u.x u.there)
 
@@ -89,17 +88,17 @@ module _ (ls : List Labeled) where
   are_numbered = record { targets = edge_small }
 
   -- ---- words
-  stray_under : (l : Labeled) (b : BasicBlock) (f : Merge) → numbered_block ls l.block ≡ b → Contains b.strays f → (x : Merge) × Contains l.block.strays x × (x.word ≡ f.word)
+  stray_under : (l : Labeled) (b : BasicBlock) (f : Merge) → numbered_block (number_of ls) l.block ≡ b → Contains b.strays f → (x : Merge) × Contains l.block.strays x × (x.word ≡ f.word)
   stray_under l b f is c =
-      let d : Contains (map (numbered_merge ls) l.block.strays) f = subst (λ (o : BasicBlock). Contains o.strays f) (sym is) c in
-      let s = source_at (numbered_merge ls) l.block.strays d.0 f (contains_get (map (numbered_merge ls) l.block.strays) f d) in
+      let d : Contains (map (numbered_merge (number_of ls)) l.block.strays) f = subst (λ (o : BasicBlock). Contains o.strays f) (sym is) c in
+      let s = source_at (numbered_merge (number_of ls)) l.block.strays d.0 f (contains_get (map (numbered_merge (number_of ls)) l.block.strays) f d) in
       (s.x, get_contains l.block.strays d.0 s.x s.there, ap (λ (m : Merge). m.word) s.is)
 
-  stray_at : (l : Labeled) (b : BasicBlock) (i : ℕ) (f : Merge) → numbered_block ls l.block ≡ b → slice_get b.strays i ≡ Some f → Source (numbered_merge ls) (slice_get l.block.strays i) f
-  stray_at l b i f is e = source_at (numbered_merge ls) l.block.strays i f (ap (λ (o : BasicBlock). slice_get o.strays i) is ∙ e)
+  stray_at : (l : Labeled) (b : BasicBlock) (i : ℕ) (f : Merge) → numbered_block (number_of ls) l.block ≡ b → slice_get b.strays i ≡ Some f → Source (numbered_merge (number_of ls)) (slice_get l.block.strays i) f
+  stray_at l b i f is e = source_at (numbered_merge (number_of ls)) l.block.strays i f (ap (λ (o : BasicBlock). slice_get o.strays i) is ∙ e)
 
-  merge_under : (l : Labeled) (b : BasicBlock) (g : Merge) → numbered_block ls l.block ≡ b → b.merge ≡ Some g → Source (numbered_merge ls) l.block.merge g
-  merge_under l b g is e = source (numbered_merge ls) l.block.merge g (ap (λ (o : BasicBlock). o.merge) is ∙ e)
+  merge_under : (l : Labeled) (b : BasicBlock) (g : Merge) → numbered_block (number_of ls) l.block ≡ b → b.merge ≡ Some g → Source (numbered_merge (number_of ls)) l.block.merge g
+  merge_under l b g is e = source (numbered_merge (number_of ls)) l.block.merge g (ap (λ (o : BasicBlock). o.merge) is ∙ e)
 
   pub in_order : AreInOrder (map block_of ls) → AreInOrder (numbered ls)
   in_order o = record {

@@ -1,7 +1,7 @@
 use Rattle.std.proofs.Common.{sym, ◌∙◌, arith}
 use Rattle.std.proofs.lemmas.Grind.{common_steps}
-use Rattle.structure_rules.proofs.TableLaws.{kept_there, kept_new}
-use Rattle.structure_rules.proofs.number.keep_first.Goals as goal
+use Rattle.flow_blocks.proofs.TableLaws.{kept_there, kept_new}
+use Rattle.flow_blocks.proofs.labels.keep_first.Goals as goal
 
 pub returns-then-contains_key : goal.returns-then-contains_key
 returns-then-contains_key c = kept_there _ c.args.label _ (sym c.contains_key.ensures ∙ c.if-contains_key.true)
