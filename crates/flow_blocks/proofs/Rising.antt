@@ -5,15 +5,14 @@ use Rattle.std.specs.List.{Contains}
 use Rattle.std.proofs.lemmas.List.Elements.{Contains-push_cases}
 use Rattle.spv_form.specs.declared.module.Inst.{Inst}
 use Rattle.spv_form.specs.Words.{size_of}
-use Rattle.flow_rules.specs.declared.block.BasicBlock.{BasicBlock}
+use Rattle.flow_rules.specs.Blocks.{BasicBlock}
 use Rattle.flow_rules.specs.declared.block.Merge.{Merge}
 use Rattle.flow_rules.specs.declared.block.MergeKind.{MergeKind}
 use Rattle.flow_rules.specs.declared.block.MergeKind.TheVariants.{Selection, Loop}
 use Rattle.flow_rules.specs.declared.block.Terminator.{Terminator}
 use Rattle.flow_rules.specs.Flow.{At}
 use Rattle.flow_rules.specs.Rules.{AreInOrder}
-use Rattle.flow_blocks.specs.declared.read.Open.{Open}
-use Rattle.flow_blocks.specs.Blocks.{operand, terminator_of, merge_of, targets_of, with_merge, inner_after, ended, blocks_from, labeled_blocks, block_of}
+use Rattle.flow_blocks.specs.Blocks.{Open, operand, terminator_of, merge_of, targets_of, with_merge, inner_after, ended, blocks_from, labeled_blocks, block_of}
 
 -- merge instructions between two words, in order
 record AreBetween (low : ℕ) (fs : List Merge) (high : ℕ) : Type 0 where

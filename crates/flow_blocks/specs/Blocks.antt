@@ -3,13 +3,23 @@
 use Rattle.std.specs.Prelude.{ℕ, ◌+◌, ◌==◌, List, [], ◌∷◌, ◌++◌, drop, get_or, Option, Some, None, if◌then◌else◌}
 use Rattle.spv_form.specs.declared.module.Inst.{Inst}
 use Rattle.spv_form.specs.Words.{size_of}
-use Rattle.flow_rules.specs.declared.block.BasicBlock.{BasicBlock}
+use Rattle.flow_rules.specs.Blocks.{BasicBlock}
 use Rattle.flow_rules.specs.declared.block.Merge.{Merge}
 use Rattle.flow_rules.specs.declared.block.MergeKind.TheVariants.{Selection, Loop}
 use Rattle.flow_rules.specs.declared.block.Terminator.{Terminator}
 use Rattle.flow_rules.specs.declared.block.Terminator.TheVariants.{Branch, BranchConditional, Switch, Return}
-use Rattle.flow_blocks.specs.declared.read.Labeled.{Labeled}
-use Rattle.flow_blocks.specs.declared.read.Open.{Open}
+
+-- a block with the id of its label
+pub record Labeled : Type 0 where
+  pub label : ℕ
+  pub block : BasicBlock
+
+-- a block whose terminator does not stand yet, with the merge instruction that stands last
+pub record Open : Type 0 where
+  pub label : ℕ
+  pub word : ℕ
+  pub strays : List Merge
+  pub merge : Option Merge
 
 abbrev pub operand : Inst → ℕ → ℕ
 operand x at = get_or x.operands at 0

@@ -2,9 +2,10 @@
 #![tactic(auto)]
 
 mod inst;
+mod labels;
 mod read;
 
-pub use read::{Labeled, LabeledList, labeled_blocks};
+pub use read::blocks_of;
 
 #[cfg(test)]
 mod tests;

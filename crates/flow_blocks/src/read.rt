@@ -1,122 +1,129 @@
-ghost use Rattle.std.specs.Prelude.{◌≡◌, ◌+◌, ◌<◌, ◌^◌, ◌++◌, [], length, map, Some, None, OnOk, IfOk};
-ghost use Rattle.flow_blocks.specs.Blocks.{operand as operand_of, merge_of as merge_named, inner_after, ended_at, open_after, labeled_blocks as blocks_of_insts, block_of};
-ghost use Rattle.flow_rules.specs.Rules.{AreInOrder};
+ghost use Rattle.std.specs.Prelude.{◌≡◌, ◌+◌, ◌<◌, ◌^◌, ◌++◌, ◌∷◌, [], ℕ, length, map, Some, None, OnOk, IfOk};
+ghost use Rattle.std.specs.Option.{option_map};
+ghost use Rattle.flow_blocks.specs.Blocks.{merge_of as merge_named, terminator_of as terminator_named, targets_of as targets_named, labeled_blocks, with_merge};
+ghost use Rattle.flow_blocks.specs.Numbered.{numbered_merge, each_numbered, blocks_of as blocks_named};
+ghost use Rattle.flow_blocks.specs.Passes.{number_in, next_inner, block_ended, block_after, block_ended_at};
+ghost use Rattle.flow_rules.specs.Kept.{targets_of as targets_kept, terminator_of as terminator_kept};
+ghost use Rattle.flow_rules.specs.Rules.{IsNumbered, AreInOrder};
 ghost use Rattle.spv_form.specs.Words.{start_of};
 
-use crate::inst::{merge_of, operand, targets_of, terminator_of};
+use crate::inst::{ending_of, merge_of};
+use crate::labels::Labels;
 use dx_base::{List, OutOfMemory};
-use flow_rules::{BasicBlock, Merge, MergeList};
+use flow_rules::{BasicBlock, BlockList, Ending, Merge, MergeList};
 use spv_form::{Inst, InstList, op};
 use std::alloc::Global;
 
-/// A block with the id of its label. Its blocks are named by the ids of their labels.
-#[derive(Debug, Drop)]
-pub struct Labeled {
-    pub label: u32,
-    pub block: BasicBlock,
-}
-
-/// Blocks with the ids of their labels, in word order.
-pub type LabeledList = List<Labeled>;
-
 /// A block whose terminator does not stand yet, with the merge instruction that stands last.
-#[derive(Debug, Drop)]
-pub struct Open {
-    pub(crate) label: u32,
-    pub(crate) word: u32,
-    pub(crate) strays: MergeList,
-    pub(crate) merge: Option<Merge>,
+#[derive(Drop)]
+struct OpenBlock {
+    word: u32,
+    strays: MergeList,
+    merge: Option<Merge>,
 }
 
-/// The block at a label.
-fn begun(alloc: Global, inst: &Inst, word: u32) -> Open
-    ensures { result ≡ record { label = operand_of inst.now 0; word = word; strays = []; merge = None } }
-{
-    Open {
-        label: operand(inst, 0),
-        word,
-        strays: List::new(alloc),
-        merge: None,
+impl OpenBlock {
+    /// The block at a label.
+    fn new(alloc: Global, word: u32) -> OpenBlock
+        ensures { result ≡ record { word = word; strays = []; merge = None } }
+    {
+        OpenBlock {
+            word,
+            strays: List::new(alloc),
+            merge: None,
+        }
+    }
+
+    /// The block with one instruction more, which is no terminator.
+    fn with_inst(self, merge: Option<Merge>) -> Result<OpenBlock, OutOfMemory>
+        ensures { IfOk result (λ o. o ≡ record { word = self.word; strays = with_merge self.strays self.merge; merge = merge }) }
+    {
+        let mut strays = self.strays;
+        match self.merge {
+            Some(stray) => match strays.push(stray) {
+                Ok(()) => {}
+                Err(_) => return Err(OutOfMemory),
+            },
+            None => {}
+        }
+        Ok(OpenBlock {
+            word: self.word,
+            strays,
+            merge,
+        })
+    }
+
+    /// The block that is ended at a word.
+    fn ended(self, alloc: Global, ending: Ending, word: u32) -> Result<BasicBlock, OutOfMemory>
+        ensures { IfOk result (λ b. b ≡ record { word = self.word; strays = self.strays; merge = self.merge; terminator = terminator_kept ending; end_word = word; targets = targets_kept ending }) }
+    {
+        BasicBlock::new(alloc, self.word, self.strays, self.merge, ending, word)
     }
 }
 
-/// The block with one instruction more, which is no terminator.
-fn with_inst(current: Open, inst: &Inst, word: u32) -> Result<Open, OutOfMemory>
-    ensures { IfOk result (λ o. Some o ≡ inner_after (Some current) None (merge_named inst.now word)) }
+/// The merge instruction with numbers in place of labels.
+fn numbered_merge_of(labels: &Labels, inst: &Inst, word: u32) -> Option<Merge>
+    ensures { result ≡ option_map (numbered_merge (number_in labels.now)) (merge_named inst.now word) }
 {
-    let mut strays = current.strays;
-    match current.merge {
-        Some(merge) => match strays.push(merge) {
-            Ok(()) => {}
-            Err(_) => return Err(OutOfMemory),
-        },
-        None => {}
+    match merge_of(inst, word) {
+        Some(merge) => Some(labels.merge(merge)),
+        None => None,
     }
-    Ok(Open {
-        label: current.label,
-        word: current.word,
-        strays,
-        merge: merge_of(inst, word),
-    })
 }
 
 /// Reads one instruction: it begins a block, stands in one or ends one.
 fn step(
     alloc: Global,
-    current: Option<Open>,
-    blocks: &mut LabeledList,
+    labels: &Labels,
+    current: Option<OpenBlock>,
+    blocks: &mut BlockList,
     word: u32,
     inst: &Inst,
-) -> Result<Option<Open>, OutOfMemory>
-    ensures open { IfOk result (λ o. o ≡ open_after current word inst.now) }
-    ensures blocks { OnOk result (blocks.new ≡ blocks.old ++ ended_at current word inst.now) }
+) -> Result<Option<OpenBlock>, OutOfMemory>
+    ensures next { IfOk result (λ o. o ≡ block_after (number_in labels.now) current word inst.now) }
+    ensures blocks { OnOk result (blocks.new ≡ blocks.old ++ block_ended_at (number_in labels.now) current word inst.now) }
 {
     if inst.opcode == op::LABEL {
-        return Ok(Some(begun(alloc, inst, word)));
+        return Ok(Some(OpenBlock::new(alloc, word)));
     }
-    match current {
-        None => Ok(None),
-        Some(open) => match terminator_of(inst) {
-            None => {
-                let next = with_inst(open, inst, word)?;
-                Ok(Some(next))
-            }
-            Some(terminator) => {
-                let targets = targets_of(alloc, inst)?;
-                let ended = Labeled {
-                    label: open.label,
-                    block: BasicBlock {
-                        word: open.word,
-                        strays: open.strays,
-                        merge: open.merge,
-                        terminator,
-                        end_word: word,
-                        targets,
-                    },
-                };
-                match blocks.push(ended) {
-                    Ok(()) => Ok(None),
-                    Err(_) => Err(OutOfMemory),
-                }
-            }
-        },
+    let Some(open) = current else {
+        return Ok(None);
+    };
+    let Some(ending) = ending_of(alloc, labels, inst)? else {
+        let next = open.with_inst(numbered_merge_of(labels, inst, word))?;
+        return Ok(Some(next));
+    };
+    let block = open.ended(alloc, ending, word)?;
+    match blocks.push(block) {
+        Ok(()) => Ok(None),
+        Err(_) => Err(OutOfMemory),
     }
 }
 
-/// The blocks of a module's instructions, in word order. Each is named by the id of its label, and so are the blocks that it names.
-pub fn labeled_blocks(alloc: Global, insts: &InstList) -> Result<LabeledList, OutOfMemory>
+fn numbered_blocks(alloc: Global, labels: &Labels, insts: &[Inst]) -> Result<BlockList, OutOfMemory>
     requires { start_of insts.now (length insts.now) < 2 ^ 32 }
-    ensures exact { IfOk result (λ v. v ≡ blocks_of_insts insts.now) }
-    ensures order { IfOk result (λ v. AreInOrder (map block_of v)) }
+    ensures { IfOk result (λ v. v ≡ each_numbered (number_in labels.now) (labeled_blocks insts.now)) }
 {
-    let insts = insts.as_slice();
     let mut blocks = List::new(alloc);
     let mut current = None;
     let mut word = 5u32;
     for at in 0..insts.len() {
         let inst = &insts[at];
-        current = step(alloc, current, &mut blocks, word, inst)?;
+        current = step(alloc, labels, current, &mut blocks, word, inst)?;
         word += 1 + inst.operands.len() as u32;
     }
     Ok(blocks)
+}
+
+/// The blocks of a module's instructions, in word order. They name each other by their numbers.
+pub fn blocks_of(alloc: Global, insts: &InstList) -> Result<BlockList, OutOfMemory>
+    requires { start_of insts.now (length insts.now) < 2 ^ 32 }
+    ensures exact { IfOk result (λ blocks. blocks ≡ blocks_named insts.now) }
+    ensures small { IfOk result (λ blocks. length blocks < 2 ^ 32) }
+    ensures numbered { IfOk result (λ blocks. IsNumbered blocks) }
+    ensures order { IfOk result (λ blocks. AreInOrder blocks) }
+{
+    let insts = insts.as_slice();
+    let labels = Labels::of(alloc, insts)?;
+    numbered_blocks(alloc, &labels, insts)
 }

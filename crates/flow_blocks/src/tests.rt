@@ -1,17 +1,17 @@
 ghost use Rattle.std.specs.Prelude.{◌<◌, ◌^◌, length};
 ghost use Rattle.spv_form.specs.Words.{start_of};
 
-use crate::labeled_blocks;
+use crate::blocks_of;
 use dx_base::List;
 use flow_rules::{Merge, MergeKind, Terminator};
-use spv_form::{Inst, InstList, op};
+use spv_form::{Inst, InstList, Operands, op};
 use std::alloc::Global;
 use std::process::Abort;
 use std::test::Fail;
 
 /// Adds an instruction.
 fn add(rt: &impl Abort, alloc: Global, insts: &mut InstList, opcode: u16, words: &[u32]) {
-    let mut operands = List::new(alloc);
+    let mut operands = Operands::new(alloc);
     for word in words {
         assert!(rt; operands.push(*word).is_ok());
     }
@@ -49,38 +49,64 @@ fn a_block_has_its_words_merge_instructions_and_targets(rt: HostRuntime) -> Resu
     add(&rt, alloc, &mut insts, op::RETURN, &[]);
     add(&rt, alloc, &mut insts, op::FUNCTION_END, &[]);
     expect_short(&rt, &insts);
-    let blocks = labeled_blocks(alloc, &insts)?;
+    let blocks = blocks_of(alloc, &insts)?;
     assert_eq!(rt; blocks.len(), 3);
     let blocks = blocks.as_slice();
     assert!(rt; blocks.len() == 3);
-    let first = &blocks[0];
-    assert_eq!(rt;
-        (first.label, first.block.word, first.block.end_word),
-        (6, 10, 19)
-    );
-    assert_eq!(rt; first.block.terminator, Terminator::BranchConditional);
-    assert_eq!(rt; first.block.targets.as_slice(), [7, 9].as_slice());
-    let kind = MergeKind::Loop { continue_target: 8 };
+    // the blocks at the labels 6, 7 and 9; no block is at label 8
+    let [first, second, third] = [&blocks[0], &blocks[1], &blocks[2]];
+    assert_eq!(rt; (first.word(), first.end_word()), (10, 19));
+    assert_eq!(rt; first.terminator(), Terminator::BranchConditional);
+    assert_eq!(rt; first.targets(), [1, 2].as_slice());
+    let kind = MergeKind::Loop { continue_target: 0 };
     let merge = Merge {
         word: 15,
         kind,
-        merge_block: 9,
+        merge_block: 2,
     };
-    assert_eq!(rt; first.block.merge, Some(merge));
-    assert_eq!(rt; first.block.strays.len(), 1);
-    let second = &blocks[1];
-    assert_eq!(rt;
-        (second.label, second.block.word, second.block.end_word),
-        (7, 23, 32)
-    );
-    assert_eq!(rt; second.block.targets.as_slice(), [9, 8, 9].as_slice());
-    assert_eq!(rt; second.block.merge, None);
-    assert_eq!(rt; second.block.strays.len(), 1);
-    let third = &blocks[2];
-    assert_eq!(rt;
-        (third.label, third.block.word, third.block.end_word),
-        (9, 39, 41)
-    );
-    assert_eq!(rt; third.block.terminator, Terminator::Return);
+    assert_eq!(rt; first.merge(), Some(merge));
+    let stray = Merge {
+        word: 12,
+        kind: MergeKind::Selection,
+        merge_block: 2,
+    };
+    assert_eq!(rt; first.strays(), [stray].as_slice());
+    assert_eq!(rt; (second.word(), second.end_word()), (23, 32));
+    assert_eq!(rt; second.targets(), [2, 0, 2].as_slice());
+    assert_eq!(rt; second.merge(), None);
+    assert_eq!(rt; second.strays().len(), 1);
+    assert_eq!(rt; (third.word(), third.end_word()), (39, 41));
+    assert_eq!(rt; third.terminator(), Terminator::Return);
+    Ok(())
+}
+
+#[test]
+fn a_label_names_its_first_block(rt: HostRuntime) -> Result<(), Fail> {
+    let alloc = rt.alloc();
+    let mut insts = List::new(alloc);
+    add(&rt, alloc, &mut insts, op::LABEL, &[6]);
+    add(&rt, alloc, &mut insts, op::SELECTION_MERGE, &[7, 0]);
+    add(&rt, alloc, &mut insts, op::BRANCH, &[7]);
+    // label 5 has no terminator
+    add(&rt, alloc, &mut insts, op::LABEL, &[5]);
+    add(&rt, alloc, &mut insts, op::LABEL, &[7]);
+    add(&rt, alloc, &mut insts, op::RETURN, &[]);
+    add(&rt, alloc, &mut insts, op::RETURN, &[]);
+    add(&rt, alloc, &mut insts, op::LABEL, &[7]);
+    add(&rt, alloc, &mut insts, op::BRANCH, &[7]);
+    expect_short(&rt, &insts);
+    let blocks = blocks_of(alloc, &insts)?;
+    let blocks = blocks.as_slice();
+    assert!(rt; blocks.len() == 3);
+    assert_eq!(rt; blocks[0].targets(), [1].as_slice());
+    let merge = Merge {
+        word: 7,
+        kind: MergeKind::Selection,
+        merge_block: 1,
+    };
+    assert_eq!(rt; blocks[0].merge(), Some(merge));
+    assert_eq!(rt; blocks[1].terminator(), Terminator::Return);
+    assert_eq!(rt; (blocks[2].word(), blocks[2].end_word()), (18, 20));
+    assert_eq!(rt; blocks[2].targets(), [1].as_slice());
     Ok(())
 }

@@ -2,7 +2,7 @@
 use Rattle.std.proofs.Common.{ℕ, zero, suc, [], ◌∷◌, get_or, ◌≡◌, ◌<◌, inl, inr, sym, ap, ◌∙◌, arith, List, length, slice_get, Some}
 use Rattle.std.proofs.lemmas.Bool.{cases_lt}
 use Rattle.std.proofs.lemmas.Option.{slice_get_within}
-use Rattle.flow_rules.specs.declared.block.BasicBlock.{BasicBlock}
+use Rattle.flow_rules.specs.Blocks.{BasicBlock}
 use Rattle.flow_rules.specs.declared.block.Merge.{Merge}
 use Rattle.flow_rules.specs.declared.block.MergeKind.TheVariants.{Loop}
 use Rattle.flow_rules.specs.Flow.{At, Header, Loops}

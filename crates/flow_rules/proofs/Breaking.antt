@@ -1,7 +1,7 @@
 -- Which branch edges leave a construct to a block to which they may not, where nothing is broken before.
 use Rattle.std.proofs.Common.{ℕ, zero, suc, ◌≡◌, ◌≢◌, ◌<◌, ◌≤◌, ◌+◌, ◌⊎◌, inl, inr, refl, sym, subst, ◌∙◌, arith, List}
 use Rattle.std.proofs.lemmas.Bool.{cases_lt}
-use Rattle.flow_rules.specs.declared.block.BasicBlock.{BasicBlock}
+use Rattle.flow_rules.specs.Blocks.{BasicBlock}
 use Rattle.flow_rules.specs.declared.block.Merge.{Merge}
 use Rattle.flow_rules.specs.Flow.{Row, In, Header, Loops, SoleBack, IsConstruct, selection, loop_construct, continue_construct, IsRow, is_construct, is_loop, InnermostLoop}
 use Rattle.flow_rules.specs.Rules.{BreaksEdge, s10, BreaksMerge, s5_before, s5_behind, s7, s8_outside, MayLeave, to_loop_merge, to_continue, to_switch_merge, to_header}

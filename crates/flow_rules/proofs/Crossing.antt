@@ -1,7 +1,7 @@
 -- Where nothing is broken before a header, its rows cross one of an earlier header exactly where it ends behind the least end of a row that is open there.
 use Rattle.std.proofs.Common.{ℕ, ◌≡◌, ◌<◌, ◌≤◌, ◌+◌, inl, inr, refl, sym, ap, subst, arith, List}
 use Rattle.std.proofs.lemmas.Bool.{cases_lt}
-use Rattle.flow_rules.specs.declared.block.BasicBlock.{BasicBlock}
+use Rattle.flow_rules.specs.Blocks.{BasicBlock}
 use Rattle.flow_rules.specs.declared.block.Merge.{Merge}
 use Rattle.flow_rules.specs.declared.block.MergeKind.{MergeKind}
 use Rattle.flow_rules.specs.declared.block.MergeKind.TheVariants.{Selection, Loop}

@@ -3,7 +3,7 @@ use Rattle.std.proofs.Common.{ℕ, zero, suc, ◌≡◌, ◌≢◌, ◌<◌, ◌
 use Rattle.std.proofs.lemmas.Bool.{cases_lt, ltb-true, ltb-false, leb-true, leb-false}
 use Rattle.std.specs.List.{Contains}
 use Rattle.flow_scans.specs.Ranges.{Exceeds}
-use Rattle.flow_rules.specs.declared.block.BasicBlock.{BasicBlock}
+use Rattle.flow_rules.specs.Blocks.{BasicBlock}
 use Rattle.flow_rules.specs.declared.block.Merge.{Merge}
 use Rattle.flow_rules.specs.declared.lists.Family.TheVariants.{Edges, Backs}
 use Rattle.flow_rules.specs.Flow.{Row, In, At, Header, Loops, StructuralEdge, BackEdge, SoleBack}

@@ -4,7 +4,7 @@ use Rattle.std.proofs.lemmas.Bool.{cases_lt, cases_eq}
 use Rattle.std.proofs.lemmas.List.{take_all}
 use Rattle.std.specs.List.{Contains}
 use Rattle.flow_scans.specs.declared.span.Span.{Span}
-use Rattle.flow_rules.specs.declared.block.BasicBlock.{BasicBlock}
+use Rattle.flow_rules.specs.Blocks.{BasicBlock}
 use Rattle.flow_rules.specs.declared.block.Merge.{Merge}
 use Rattle.flow_rules.specs.declared.tables.Tables.{Tables}
 use Rattle.flow_rules.specs.Flow.{At, Edge, Header, SoleBack}
@@ -18,7 +18,7 @@ use Rattle.flow_rules.proofs.Leaving.{forward_enters, forward_stays, back_enters
 use Rattle.flow_rules.proofs.Breaking.{AreHeadsClear, back_within, back_allowed, back_leaves, forward_holds, forward_leaves_end, forward_leaves_body}
 use Rattle.flow_rules.proofs.Cases.{crosses_cases, keeps_case, back_keeps_case}
 use Rattle.flow_rules.proofs.Listing.{taken_none, taken_cases, taken_old, taken_new}
-use Rattle.flow_rules.proofs.Ending.{listed_edge}
+use Rattle.flow_rules.proofs.Ends.{listed_edge}
 
 module _ (bs : List BasicBlock) (p q : ℕ) where
   pub edge_first : NoneBelow (BreaksEdge bs p q) 6

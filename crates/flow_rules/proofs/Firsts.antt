@@ -4,7 +4,7 @@ use Rattle.std.proofs.lemmas.Bool.{cases_lt, cases_eq}
 use Rattle.std.proofs.lemmas.Option.{slice_get_within, slice_get-get_or, get_or_from_slice_get}
 use Rattle.std.specs.List.{Contains}
 use Rattle.dx_base.specs.First.{IsFirst, IsSound}
-use Rattle.flow_rules.specs.declared.block.BasicBlock.{BasicBlock}
+use Rattle.flow_rules.specs.Blocks.{BasicBlock}
 use Rattle.flow_rules.specs.declared.block.Merge.{Merge}
 use Rattle.flow_rules.specs.Flow.{At, Header}
 use Rattle.flow_rules.specs.Rules.{Strays, Merges, by_stray, by_header, BreaksLabel, s12_unreached, s12_first, BreaksMerge, s2_stray, BreaksEnd, Broken, at_label, at_merge, at_end, AreInOrder, IsClear, IsMergeClear}

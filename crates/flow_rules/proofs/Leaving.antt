@@ -1,7 +1,7 @@
 -- Which branch edges enter and leave rows, by the tables.
 use Rattle.std.proofs.Common.{ℕ, zero, suc, ◌≡◌, ◌≢◌, ◌<◌, ◌≤◌, ◌+◌, inl, inr, refl, sym, subst, arith, List}
 use Rattle.std.proofs.lemmas.Bool.{cases_lt}
-use Rattle.flow_rules.specs.declared.block.BasicBlock.{BasicBlock}
+use Rattle.flow_rules.specs.Blocks.{BasicBlock}
 use Rattle.flow_rules.specs.declared.block.Merge.{Merge}
 use Rattle.flow_rules.specs.Flow.{Row, In, Loops, selection, loop_construct, continue_construct, IsRow, is_construct, is_loop, is_case, InnermostLoop, InnermostSwitch, IsSwitchRow}
 use Rattle.flow_rules.specs.Rules.{BreaksEdge, s9}

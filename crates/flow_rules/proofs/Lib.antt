@@ -4,7 +4,7 @@ pub mod Cases
 pub mod Crossing
 pub mod Deciding
 pub mod Edges
-pub mod Ending
+pub mod Ends
 pub mod Firsts
 pub mod Leaving
 pub mod Listing

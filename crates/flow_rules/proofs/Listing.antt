@@ -10,7 +10,7 @@ use Rattle.flow_scans.proofs.Tables.{has_new, has_old, has_cases}
 use Rattle.std.specs.Ordering.{nat_cmp}
 use Rattle.std.specs.List.Sorted.{IsSorted, IsPermutation}
 use Rattle.std.proofs.lemmas.List.Sorted.{Contains-permutation, IsPermutation-sym, IsNonDecreasingBy-from_sort}
-use Rattle.flow_rules.specs.declared.block.BasicBlock.{BasicBlock}
+use Rattle.flow_rules.specs.Blocks.{BasicBlock}
 use Rattle.flow_rules.specs.declared.block.Terminator.TheVariants.{Switch}
 use Rattle.flow_rules.specs.Flow.{At}
 use Rattle.flow_rules.specs.Lists.{Extends, IsSpanOf, with_span, TargetOf, BackTarget, BackSource, CaseAt, CasesTo, SelectionOf, SwitchOf, IsBetween, BetweenStep, Between}

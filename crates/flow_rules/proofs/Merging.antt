@@ -1,7 +1,7 @@
 -- The least rule that is broken at a place, by asking one after the other.
 use Rattle.std.proofs.Common.{ℕ, ◌≡◌, ◌<◌, ◌≤◌, ◌+◌, inl, inr, subst, arith, List, Some, None}
 use Rattle.std.proofs.lemmas.Bool.{cases_lt}
-use Rattle.flow_rules.specs.declared.block.BasicBlock.{BasicBlock}
+use Rattle.flow_rules.specs.Blocks.{BasicBlock}
 use Rattle.flow_rules.specs.declared.block.Merge.{Merge}
 use Rattle.flow_rules.specs.declared.block.MergeKind.TheVariants.{Selection, Loop}
 use Rattle.flow_rules.specs.Flow.{At, Header, Loops, SoleBack}

@@ -6,7 +6,7 @@ use Rattle.std.specs.List.{Contains}
 use Rattle.std.specs.Ordering.{ord_max, nat_cmp}
 use Rattle.flow_scans.specs.declared.span.Span.{Span}
 use Rattle.flow_scans.specs.Spans.{Below, IsLeastFirst, IsGreatestEnd, IsFirstEnd, IsLastOver, AreLeastFirsts, AreGreatestEnds, AreFirstEnds, AreLastOvers}
-use Rattle.flow_rules.specs.declared.block.BasicBlock.{BasicBlock}
+use Rattle.flow_rules.specs.Blocks.{BasicBlock}
 use Rattle.flow_rules.specs.declared.block.Merge.{Merge}
 use Rattle.flow_rules.specs.declared.lists.Family.{Family}
 use Rattle.flow_rules.specs.declared.lists.Family.TheVariants.{Edges, Headers, Backs, Returns, Nested, Rows, Lefts, Bodies, Loops as AllLoops, Switches as AllSwitches, CaseFroms}

@@ -4,7 +4,7 @@ use Rattle.std.proofs.lemmas.Bool.{cases_lt, cases_eq}
 use Rattle.std.proofs.lemmas.List.Elements.{Contains-get_or}
 use Rattle.std.specs.List.{Contains}
 use Rattle.flow_scans.specs.declared.span.Span.{Span}
-use Rattle.flow_rules.specs.declared.block.BasicBlock.{BasicBlock}
+use Rattle.flow_rules.specs.Blocks.{BasicBlock}
 use Rattle.flow_rules.specs.declared.block.Merge.{Merge}
 use Rattle.flow_rules.specs.Flow.{At, CaseStart}
 use Rattle.flow_rules.specs.Lists.{IsSpanOf, SwitchOf, Between, Starts, CasesTo, FromSpan, CaseOf, CaseFrom}

@@ -5,7 +5,7 @@ use Rattle.dx_base.specs.First.{IsFirst, IsSound}
 use Rattle.spv_form.specs.declared.fault.CheckFault.{CheckFault}
 use Rattle.spv_form.specs.declared.fault.CheckFault.TheVariants.{Refused, OutOfMemory}
 use Rattle.spv_form.specs.declared.fault.WordRule.TheVariants.{S}
-use Rattle.flow_rules.specs.declared.block.BasicBlock.{BasicBlock}
+use Rattle.flow_rules.specs.Blocks.{BasicBlock}
 use Rattle.flow_rules.specs.declared.block.Merge.{Merge}
 use Rattle.flow_rules.specs.declared.check.Fault.{Fault}
 use Rattle.flow_rules.specs.Flow.{Row, Loops, Switches, SoleBack}

@@ -1,6 +1,6 @@
 -- The edges and constructs of a function's blocks (SPIR-V 1.6, section 2.11). A block is named by its number in word order.
 use Rattle.std.specs.Prelude.{ℕ, ◌≡◌, ◌<◌, ◌≤◌, List, slice_get, Some, Contains, ◌⊎◌}
-use Rattle.flow_rules.specs.declared.block.BasicBlock.{BasicBlock}
+use Rattle.flow_rules.specs.Blocks.{BasicBlock}
 use Rattle.flow_rules.specs.declared.block.Merge.{Merge}
 use Rattle.flow_rules.specs.declared.block.MergeKind.TheVariants.{Selection, Loop}
 use Rattle.flow_rules.specs.declared.block.Terminator.TheVariants.{Switch}

@@ -1,5 +1,7 @@
 pub mod Answers
+pub mod Blocks
 pub mod Flow
+pub mod Kept
 pub mod Lists
 pub mod Regular
 pub mod Rules

@@ -2,7 +2,7 @@
 use Rattle.std.specs.Prelude.{ℕ, ◌∷◌, ◌++◌, [], Option, Some, None, ◌≡◌, ◌+◌, ◌-◌, ◌^◌, ◌<◌, ◌≤◌, List, length, slice_index, Contains, ◌⊎◌}
 use Rattle.flow_scans.specs.declared.span.Span.{Span}
 use Rattle.flow_scans.specs.Spans.{Has}
-use Rattle.flow_rules.specs.declared.block.BasicBlock.{BasicBlock}
+use Rattle.flow_rules.specs.Blocks.{BasicBlock}
 use Rattle.flow_rules.specs.declared.block.Merge.{Merge}
 use Rattle.flow_rules.specs.declared.block.Terminator.TheVariants.{Return}
 use Rattle.flow_rules.specs.declared.tables.Tables.{Tables}

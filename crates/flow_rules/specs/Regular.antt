@@ -1,6 +1,6 @@
 -- Blocks whose words stand at regular distances, for tests.
 use Rattle.std.specs.Prelude.{ℕ, ◌≡◌, ◌<◌, ◌+◌, ◌*◌, List, [], ◌∷◌, Contains, Option, Some, ◌⊎◌}
-use Rattle.flow_rules.specs.declared.block.BasicBlock.{BasicBlock}
+use Rattle.flow_rules.specs.Blocks.{BasicBlock}
 use Rattle.flow_rules.specs.declared.block.Merge.{Merge}
 use Rattle.flow_rules.specs.declared.block.MergeKind.TheVariants.{Loop}
 use Rattle.flow_rules.specs.Flow.{At}

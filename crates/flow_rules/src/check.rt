@@ -212,7 +212,7 @@ fn merge_rule(
     requires tidy { IsTidy blocks.now p }
     ensures { RuleAnswer result (BreaksMerge blocks.now p merge) }
 {
-    if !suits(merge.kind, block.terminator) {
+    if !suits(merge.kind, block.terminator()) {
         return Some(2);
     }
     if is_shared(tables, blocks, p, merge) {
@@ -255,7 +255,7 @@ fn closes_loop(blocks: &[BasicBlock], p: usize, block: &BasicBlock) -> bool
     requires conditional { block.now.terminator ≡ BranchConditional }
     ensures { Tells result (ClosesLoop blocks.now p block.now) }
 {
-    let targets = block.targets.as_slice();
+    let targets = block.targets();
     if targets.len() != 2 {
         return false;
     }
@@ -269,7 +269,7 @@ fn closes_loop(blocks: &[BasicBlock], p: usize, block: &BasicBlock) -> bool
 fn is_doubled(block: &BasicBlock) -> bool
     ensures { Tells result (IsDoubled block.now) }
 {
-    let targets = block.targets.as_slice();
+    let targets = block.targets();
     if targets.len() != 2 {
         return false;
     }
@@ -280,7 +280,7 @@ fn is_doubled(block: &BasicBlock) -> bool
 fn has_no_merge(block: &BasicBlock) -> bool
     ensures { Tells result (block.now.merge ≡ None) }
 {
-    match block.merge {
+    match block.merge() {
         Some(_) => false,
         None => true,
     }
@@ -292,7 +292,7 @@ fn breaks_fork(blocks: &[BasicBlock], p: usize, block: &BasicBlock) -> bool
     requires at { At blocks.now p block.now }
     ensures { Tells result (BreaksEnd blocks.now p block.now 1) }
 {
-    match block.terminator {
+    match block.terminator() {
         Terminator::Branch => false,
         Terminator::Return => false,
         Terminator::Switch => has_no_merge(block),
@@ -470,7 +470,7 @@ fn edges_rule(tables: &Tables, blocks: &[BasicBlock], p: usize, block: &BasicBlo
     ensures { RuleAnswer result (BreaksSome blocks.now p block.now.targets) }
 {
     let mut least = None;
-    for target in block.targets.as_slice() {
+    for target in block.targets() {
         least = lesser(least, edge_rule(tables, blocks, p, *target));
     }
     least
@@ -508,7 +508,7 @@ fn merge_fault(
     requires tidy { IsTidy blocks.now p }
     ensures { MergeAnswer result blocks.now p block.now }
 {
-    match block.merge {
+    match block.merge() {
         Some(merge) => match merge_rule(tables, blocks, p, block, merge) {
             Some(rule) => Some(Fault {
                 rule,
@@ -524,7 +524,7 @@ fn merge_fault(
 fn first_stray(block: &BasicBlock) -> Option<u32>
     ensures { StrayAnswer result block.now }
 {
-    let strays = block.strays.as_slice();
+    let strays = block.strays();
     if strays.len() == 0 {
         return None;
     }
@@ -545,7 +545,7 @@ fn block_fault(tables: &Tables, blocks: &[BasicBlock], p: usize) -> Option<Fault
     if breaks_label(tables, blocks, p) {
         return Some(Fault {
             rule: 12,
-            word: block.word,
+            word: block.word(),
         });
     }
     match first_stray(block) {
@@ -559,7 +559,7 @@ fn block_fault(tables: &Tables, blocks: &[BasicBlock], p: usize) -> Option<Fault
     match end_rule(tables, blocks, p, block) {
         Some(rule) => Some(Fault {
             rule,
-            word: block.end_word,
+            word: block.end_word(),
         }),
         None => None,
     }

@@ -6,7 +6,7 @@ mod check;
 mod lists;
 mod tables;
 
-pub use block::{BasicBlock, BlockList, Merge, MergeKind, MergeList, Terminator};
+pub use block::{BasicBlock, BlockList, Ending, Merge, MergeKind, MergeList, Terminator};
 pub use check::check_flow;
 
 #[cfg(test)]

@@ -1,7 +1,7 @@
 //! The lists of spans from which the tables of the structure rules are made.
 
 ghost use Rattle.std.specs.Prelude.{◌≡◌, ◌∷◌, ◌++◌, [], ◌<◌, ◌≤◌, ◌^◌, ℕ, List as Seq, length, slice_index, Contains, OnOk, IfOk, None, Some};
-ghost use Rattle.flow_rules.specs.declared.block.BasicBlock.{BasicBlock as Block};
+ghost use Rattle.flow_rules.specs.Blocks.{BasicBlock as Block};
 ghost use Rattle.flow_rules.specs.Flow.{At};
 ghost use Rattle.flow_rules.specs.Rules.{IsNumbered};
 ghost use Rattle.flow_rules.specs.Lists.{EdgeOf, NestedOf, RowOf, LeftOf, CaseFrom, BackOf, BackTo, HeaderOf, BodyOf, ContinueOf, LoopOf, SelectionOf, SwitchOf, IsSpanOf, with_span, TargetOf, BackTarget, BackSource, Extends, Between, BetweenStep, CaseAt, CasesTo, FromSpan, Starts, OfFamily, Lists, SpanOf};
@@ -41,7 +41,7 @@ pub enum Family {
 pub(crate) fn header_of(p: u32, block: &BasicBlock) -> Option<Span>
     ensures { (bs : Seq Block) → At bs p block.now → IsSpanOf result (HeaderOf bs p) }
 {
-    let merge = block.merge?;
+    let merge = block.merge()?;
     Some(Span {
         first: p,
         end: merge.merge_block,
@@ -52,7 +52,7 @@ pub(crate) fn header_of(p: u32, block: &BasicBlock) -> Option<Span>
 pub(crate) fn body_of(p: u32, block: &BasicBlock) -> Option<Span>
     ensures { (bs : Seq Block) → At bs p block.now → IsSpanOf result (BodyOf bs p) }
 {
-    let merge = block.merge?;
+    let merge = block.merge()?;
     match merge.kind {
         MergeKind::Loop { continue_target } => Some(Span {
             first: p,
@@ -66,7 +66,7 @@ pub(crate) fn body_of(p: u32, block: &BasicBlock) -> Option<Span>
 pub(crate) fn continue_of(p: u32, block: &BasicBlock) -> Option<Span>
     ensures { (bs : Seq Block) → At bs p block.now → IsSpanOf result (ContinueOf bs p) }
 {
-    let merge = block.merge?;
+    let merge = block.merge()?;
     match merge.kind {
         MergeKind::Loop { continue_target } => Some(Span {
             first: continue_target,
@@ -80,7 +80,7 @@ pub(crate) fn continue_of(p: u32, block: &BasicBlock) -> Option<Span>
 pub(crate) fn loop_of(p: u32, block: &BasicBlock) -> Option<Span>
     ensures { (bs : Seq Block) → At bs p block.now → IsSpanOf result (LoopOf bs p) }
 {
-    let merge = block.merge?;
+    let merge = block.merge()?;
     match merge.kind {
         MergeKind::Loop { .. } => Some(Span {
             first: p,
@@ -94,7 +94,7 @@ pub(crate) fn loop_of(p: u32, block: &BasicBlock) -> Option<Span>
 pub(crate) fn selection_of(p: u32, block: &BasicBlock) -> Option<Span>
     ensures { (bs : Seq Block) → At bs p block.now → IsSpanOf result (SelectionOf bs p) }
 {
-    let merge = block.merge?;
+    let merge = block.merge()?;
     match merge.kind {
         MergeKind::Selection => Some(Span {
             first: p,
@@ -108,7 +108,7 @@ pub(crate) fn selection_of(p: u32, block: &BasicBlock) -> Option<Span>
 pub(crate) fn switch_of(p: u32, block: &BasicBlock) -> Option<Span>
     ensures { (bs : Seq Block) → At bs p block.now → IsSpanOf result (SwitchOf bs p) }
 {
-    match block.terminator {
+    match block.terminator() {
         Terminator::Switch => selection_of(p, block),
         _ => None,
     }
@@ -201,7 +201,7 @@ fn case_starts(alloc: Global, p: u32, block: &BasicBlock) -> Result<CaseStarts, 
 {
     match switch_of(p, block) {
         Some(span) => {
-            let starts = between(alloc, block.targets.as_slice(), p, span.end)?;
+            let starts = between(alloc, block.targets(), p, span.end)?;
             Ok(CaseStarts {
                 starts,
                 last: span.end,
@@ -256,7 +256,7 @@ fn push_froms(spans: &mut Vec<Span>, starts: &[u32]) -> Result<(), OutOfMemory>
 fn push_edges(spans: &mut Vec<Span>, p: u32, block: &BasicBlock) -> Result<(), OutOfMemory>
     ensures { OnOk result ((bs : Seq Block) → At bs p block.now → Extends (EdgeOf bs p) spans.old.items spans.new.items) }
 {
-    push_targets(spans, p, block.targets.as_slice())?;
+    push_targets(spans, p, block.targets())?;
     push_span(spans, header_of(p, block))?;
     push_span(spans, body_of(p, block))?;
     Ok(())
@@ -328,8 +328,8 @@ fn push_family(
     match family {
         Family::Edges => push_edges(spans, p, block)?,
         Family::Headers => push_span(spans, header_of(p, block))?,
-        Family::Backs => push_backs(spans, p, block.targets.as_slice())?,
-        Family::Returns => push_returns(spans, p, block.targets.as_slice())?,
+        Family::Backs => push_backs(spans, p, block.targets())?,
+        Family::Returns => push_returns(spans, p, block.targets())?,
         Family::Nested => push_nested(alloc, spans, p, block)?,
         Family::Rows => push_rows(alloc, spans, p, block)?,
         Family::Lefts => push_lefts(spans, p, block)?,

@@ -137,9 +137,9 @@ fn depth_of(targets: &[u32]) -> u32
 fn high_of(block: &BasicBlock) -> u32
     ensures { IsHigh block.now result }
 {
-    match block.terminator {
+    match block.terminator() {
         Terminator::Return => u32::MAX,
-        _ => greatest_of(block.targets.as_slice()),
+        _ => greatest_of(block.targets()),
     }
 }
 
@@ -147,7 +147,7 @@ fn high_of(block: &BasicBlock) -> u32
 fn low_of(block: &BasicBlock) -> u32
     ensures { IsLow block.now result }
 {
-    depth_of(block.targets.as_slice())
+    depth_of(block.targets())
 }
 
 fn highs(alloc: Global, blocks: &[BasicBlock]) -> Result<RangeMax, OutOfMemory>

@@ -2,12 +2,21 @@ ghost use Rattle.std.specs.Prelude.{◌≡◌, ◌<◌, ◌+◌, ◌*◌, ◌^�
 ghost use Rattle.flow_rules.specs.Regular.{AreRegular, IsRegular, AreNamed, IsNamed, HasStray, IsMergeOf};
 ghost use Rattle.flow_rules.specs.Rules.{IsNumbered, AreInOrder};
 
-use crate::{BasicBlock, BlockList, Merge, MergeKind, Terminator, check_flow};
+use crate::{BasicBlock, BlockList, Ending, Merge, MergeKind, check_flow};
 use dx_base::{List, Numbers};
 use spv_form::{CheckFault, WordRule};
 use std::alloc::Global;
 use std::process::Abort;
 use std::test::Fail;
+
+/// Where a block in a test goes on.
+#[derive(Clone, Copy)]
+enum Way {
+    End,
+    Go(u32),
+    Fork([u32; 2]),
+    Choose([u32; 3]),
+}
 
 /// A block in a test: its label stands at ten times its number, a stray merge instruction 2 words behind, that before the terminator 4 words behind, and the
 /// terminator 5 words behind.
@@ -15,9 +24,7 @@ use std::test::Fail;
 struct Row {
     stray: Option<u32>,
     merge: Option<(MergeKind, u32)>,
-    terminator: Terminator,
-    count: usize,
-    targets: [u32; 4],
+    way: Way,
 }
 
 impl Row {
@@ -43,46 +50,56 @@ impl Row {
     }
 }
 
-fn made(terminator: Terminator, count: usize, targets: [u32; 4]) -> Row {
+fn made(way: Way) -> Row {
     Row {
         stray: None,
         merge: None,
-        terminator,
-        count,
-        targets,
+        way,
     }
 }
 
 fn go(target: u32) -> Row {
-    made(Terminator::Branch, 1, [target, 0, 0, 0])
+    made(Way::Go(target))
 }
 
 fn fork(left: u32, right: u32) -> Row {
-    made(Terminator::BranchConditional, 2, [left, right, 0, 0])
+    made(Way::Fork([left, right]))
 }
 
 fn choose(default: u32, left: u32, right: u32) -> Row {
-    made(Terminator::Switch, 3, [default, left, right, 0])
+    made(Way::Choose([default, left, right]))
 }
 
 fn end() -> Row {
-    made(Terminator::Return, 0, [0, 0, 0, 0])
+    made(Way::End)
 }
 
-fn targets_of(rt: &impl Abort, alloc: Global, row: Row, blocks: u32) -> Result<Numbers, Fail>
-    ensures { IfOk result (λ v. AreNamed v blocks) }
-{
-    let mut targets = List::new(alloc);
-    for i in 0..row.count {
-        assert!(rt; i < 4);
-        let target = row.targets[i];
-        assert!(rt; target < blocks);
-        match targets.push(target) {
+fn list_of(rt: &impl Abort, alloc: Global, targets: &[u32]) -> Numbers {
+    let mut list = List::new(alloc);
+    for target in targets {
+        match list.push(*target) {
             Ok(()) => {}
             Err(_) => panic!(rt; "no memory"),
         }
     }
-    Ok(targets)
+    list
+}
+
+fn ending_of(rt: &impl Abort, alloc: Global, way: Way) -> Result<Ending, Fail> {
+    Ok(match way {
+        Way::End => Ending::Return,
+        Way::Go(target) => Ending::Branch([target]),
+        Way::Fork(targets) => Ending::BranchConditional(targets),
+        Way::Choose(targets) => Ending::Switch(Box::new(alloc, list_of(rt, alloc, &targets))?),
+    })
+}
+
+fn expect_named(rt: &impl Abort, targets: &[u32], blocks: u32)
+    ensures { AreNamed targets.now blocks }
+{
+    for target in targets {
+        assert!(rt; *target < blocks);
+    }
 }
 
 fn strays_of(rt: &impl Abort, alloc: Global, row: Row, word: u32) -> Result<List<Merge>, Fail>
@@ -129,17 +146,12 @@ fn block_of(
     ensures regular { IfOk result (λ b. IsRegular p b) }
     ensures named { IfOk result (λ b. IsNamed blocks b) }
 {
-    let targets = targets_of(rt, alloc, row, blocks)?;
+    let ending = ending_of(rt, alloc, row.way)?;
     let strays = strays_of(rt, alloc, row, 10 * p + 2)?;
     let merge = merge_of(rt, row, 10 * p + 4, blocks);
-    Ok(BasicBlock {
-        word: 10 * p,
-        strays,
-        merge,
-        terminator: row.terminator,
-        end_word: 10 * p + 5,
-        targets,
-    })
+    let block = BasicBlock::new(alloc, 10 * p, strays, merge, ending, 10 * p + 5)?;
+    expect_named(rt, block.targets(), blocks);
+    Ok(block)
 }
 
 /// The first broken rule of the blocks and its word.

@@ -1,30 +1,14 @@
-ghost use Rattle.std.specs.Prelude.{◌≡◌, ◌<◌, ◌^◌, IfOk, length};
-ghost use Rattle.flow_rules.specs.Rules.{IsNumbered, AreInOrder};
+ghost use Rattle.std.specs.Prelude.{◌<◌, ◌^◌, length};
 ghost use Rattle.spv_form.specs.Formed.{IsFormed};
 ghost use Rattle.spv_form.specs.Words.{start_of};
-ghost use Rattle.structure_rules.specs.Blocks.{blocks_of as blocks_named};
 ghost use Rattle.structure_rules.specs.Checking.{CheckAnswer};
 
-use crate::number::Numbers;
 use dx_base::OutOfMemory;
-use flow_blocks::labeled_blocks;
-use flow_rules::{BlockList, check_flow};
+use flow_blocks::blocks_of;
+use flow_rules::check_flow;
 use module_rules::check_rules;
-use spv_form::{CheckFault, InstList, Module};
+use spv_form::{CheckFault, Module};
 use std::alloc::Global;
-
-/// The blocks of a module's instructions.
-fn blocks_of(alloc: Global, insts: &InstList) -> Result<BlockList, OutOfMemory>
-    requires { start_of insts.now (length insts.now) < 2 ^ 32 }
-    ensures exact { IfOk result (λ blocks. blocks ≡ blocks_named insts.now) }
-    ensures small { IfOk result (λ blocks. length blocks < 2 ^ 32) }
-    ensures numbered { IfOk result (λ blocks. IsNumbered blocks) }
-    ensures order { IfOk result (λ blocks. AreInOrder blocks) }
-{
-    let labeled = labeled_blocks(alloc, insts)?;
-    let numbers = Numbers::of(alloc, labeled.as_slice())?;
-    numbers.blocks(alloc)
-}
 
 /// Checks a module against the rules V1 to V15, and the blocks of one that breaks none against the structure rules S1 to S12 (after SPIR-V 1.6, sections 2.4, 2.11 and 2.16).
 ///

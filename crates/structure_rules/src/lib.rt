@@ -2,7 +2,6 @@
 #![tactic(auto)]
 
 mod check;
-mod number;
 
 pub use check::check_module;
 

@@ -9,7 +9,8 @@ use Rattle.flow_rules.proofs.check.block_fault.Goals as goal
 pub returns-then-breaks_label : goal.returns-then-breaks_label
 returns-then-breaks_label c =
     let at = at_index c.args.blocks.now c.args.p c.index-blocks-p.result c.requires.within c.index-blocks-p.is in
-    first_label c.args.blocks.now c.requires.order c.args.p c.index-blocks-p.result at c.requires.clear (true_tells _ c.breaks_label.result c.breaks_label.ensures c.if-breaks_label.true)
+    subst (λ (w : ℕ). IsFirst (Broken c.args.blocks.now) 12 w) (sym c.word.ensures)
+    (first_label c.args.blocks.now c.requires.order c.args.p c.index-blocks-p.result at c.requires.clear (true_tells _ c.breaks_label.result c.breaks_label.ensures c.if-breaks_label.true))
 
 pub returns-in-Some : goal.returns-in-Some
 returns-in-Some c =
@@ -42,7 +43,8 @@ pub returns-in-Some-end_rule : goal.returns-in-Some-end_rule
 returns-in-Some-end_rule c =
     let at = at_index c.args.blocks.now c.args.p c.index-blocks-p.result c.requires.within c.index-blocks-p.is in
     let clean = false_tells _ c.breaks_label.result c.breaks_label.ensures c.if-breaks_label.false in
-    first_end c.args.blocks.now c.requires.order c.args.p c.index-blocks-p.result at c.requires.clear clean c.in-None-merge_fault.ensures c.in-Some-end_rule.rule c.in-Some-end_rule.ensures
+    subst (λ (w : ℕ). IsFirst (Broken c.args.blocks.now) c.in-Some-end_rule.rule w) (sym c.end_word.ensures)
+    (first_end c.args.blocks.now c.requires.order c.args.p c.index-blocks-p.result at c.requires.clear clean c.in-None-merge_fault.ensures c.in-Some-end_rule.rule c.in-Some-end_rule.ensures)
 
 pub returns-in-None-end_rule : goal.returns-in-None-end_rule
 returns-in-None-end_rule c =

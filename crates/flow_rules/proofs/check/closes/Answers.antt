@@ -1,5 +1,5 @@
 use Rattle.flow_rules.proofs.Blocks.{at_index}
-use Rattle.flow_rules.proofs.Ending.{closing_none}
+use Rattle.flow_rules.proofs.Ends.{closing_none}
 use Rattle.flow_rules.proofs.check.closes.Goals as goal
 
 pub returns-in-None : goal.returns-in-None

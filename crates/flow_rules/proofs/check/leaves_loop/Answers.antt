@@ -2,7 +2,7 @@ use Rattle.std.proofs.Common.{arith, ℕ, subst, ◌≡◌, ◌+◌, ◌-◌, �
 use Rattle.flow_rules.specs.Answers.{LoopExit}
 use Rattle.flow_rules.proofs.Blocks.{at_index}
 use Rattle.flow_rules.proofs.Deciding.{true_tells, false_tells}
-use Rattle.flow_rules.proofs.Ending.{exit_loop_end, exit_loop}
+use Rattle.flow_rules.proofs.Ends.{exit_loop_end, exit_loop}
 use Rattle.flow_rules.proofs.check.leaves_loop.Goals as goal
 
 pub returns-then-ends_at : goal.returns-then-ends_at

@@ -1,6 +1,6 @@
 use Rattle.std.proofs.Common.{arith, ℕ, ◌≡◌, ◌+◌, ◌-◌, ◌<◌, length}
 use Rattle.flow_rules.proofs.Blocks.{at_index}
-use Rattle.flow_rules.proofs.Ending.{exit_switch}
+use Rattle.flow_rules.proofs.Ends.{exit_switch}
 use Rattle.flow_rules.proofs.check.leaves_switch.Goals as goal
 
 pub returns : goal.returns

@@ -1,7 +1,7 @@
 use Rattle.std.proofs.Common.{arith, ℕ, subst, sym}
 use Rattle.flow_rules.specs.Lists.{SpanOf, LastOver, LoopOf, SwitchOf}
 use Rattle.flow_rules.proofs.Deciding.{true_tells, false_tells}
-use Rattle.flow_rules.proofs.Ending.{may_by_loop, may_not, may_tell, loop_within, switch_within}
+use Rattle.flow_rules.proofs.Ends.{may_by_loop, may_not, may_tell, loop_within, switch_within}
 use Rattle.flow_rules.proofs.check.may_leave.Goals as goal
 
 pub leaves_loop-requires : goal.leaves_loop-requires

@@ -6,19 +6,19 @@ use Rattle.flow_rules.proofs.check.merge_rule.Goals as goal
 
 pub returns-then-not-suits : goal.returns-then-not-suits
 returns-then-not-suits c = answer_some (BreaksMerge c.args.blocks.now c.args.p c.args.merge) 2 (merge_first c.args.blocks.now c.args.p c.args.merge)
-    (not_suited c.args.blocks.now c.args.p c.args.merge c.args.block.now c.requires.at c.requires.header (false_tells _ c.suits.result c.suits.ensures c.if-not-suits.true))
+    (not_suited c.args.blocks.now c.args.p c.args.merge c.args.block.now c.requires.at c.requires.header (false_tells _ c.suits.result (rw c.terminator.ensures at c.suits.ensures) c.if-not-suits.true))
 
 pub returns-then-is_shared : goal.returns-then-is_shared
 returns-then-is_shared c = answer_some (BreaksMerge c.args.blocks.now c.args.p c.args.merge) 3
     (none_more (BreaksMerge c.args.blocks.now c.args.p c.args.merge) 2 (merge_first c.args.blocks.now c.args.p c.args.merge)
-    (suited c.args.blocks.now c.args.p c.args.merge c.args.block.now c.requires.at c.requires.header (true_tells _ c.suits.result c.suits.ensures c.if-not-suits.false) c.requires.tidy))
+    (suited c.args.blocks.now c.args.p c.args.merge c.args.block.now c.requires.at c.requires.header (true_tells _ c.suits.result (rw c.terminator.ensures at c.suits.ensures) c.if-not-suits.false) c.requires.tidy))
     (true_tells _ c.is_shared.result c.is_shared.ensures c.if-is_shared.true)
 
 pub returns-then-merge-p : goal.returns-then-merge-p
 returns-then-merge-p c = answer_some (BreaksMerge c.args.blocks.now c.args.p c.args.merge) 4
     (none_more (BreaksMerge c.args.blocks.now c.args.p c.args.merge) 3
     (none_more (BreaksMerge c.args.blocks.now c.args.p c.args.merge) 2 (merge_first c.args.blocks.now c.args.p c.args.merge)
-    (suited c.args.blocks.now c.args.p c.args.merge c.args.block.now c.requires.at c.requires.header (true_tells _ c.suits.result c.suits.ensures c.if-not-suits.false) c.requires.tidy))
+    (suited c.args.blocks.now c.args.p c.args.merge c.args.block.now c.requires.at c.requires.header (true_tells _ c.suits.result (rw c.terminator.ensures at c.suits.ensures) c.if-not-suits.false) c.requires.tidy))
     (false_tells _ c.is_shared.result c.is_shared.ensures c.if-is_shared.false))
     (not_ahead c.args.blocks.now c.args.p c.args.merge c.args.block.now c.requires.at c.requires.header c.if-merge-p.true)
 
@@ -27,7 +27,7 @@ loop_rule-requires-clause-before c =
     none_more (BreaksMerge c.args.blocks.now c.args.p c.args.merge) 4
     (none_more (BreaksMerge c.args.blocks.now c.args.p c.args.merge) 3
     (none_more (BreaksMerge c.args.blocks.now c.args.p c.args.merge) 2 (merge_first c.args.blocks.now c.args.p c.args.merge)
-    (suited c.args.blocks.now c.args.p c.args.merge c.args.block.now c.requires.at c.requires.header (true_tells _ c.suits.result c.suits.ensures c.if-not-suits.false) c.requires.tidy))
+    (suited c.args.blocks.now c.args.p c.args.merge c.args.block.now c.requires.at c.requires.header (true_tells _ c.suits.result (rw c.terminator.ensures at c.suits.ensures) c.if-not-suits.false) c.requires.tidy))
     (false_tells _ c.is_shared.result c.is_shared.ensures c.if-is_shared.false))
     (ahead c.args.blocks.now c.args.p c.args.merge c.if-merge-p.false)
 
@@ -37,7 +37,7 @@ returns-then-crosses c =
     none_more (BreaksMerge c.args.blocks.now c.args.p c.args.merge) 4
     (none_more (BreaksMerge c.args.blocks.now c.args.p c.args.merge) 3
     (none_more (BreaksMerge c.args.blocks.now c.args.p c.args.merge) 2 (merge_first c.args.blocks.now c.args.p c.args.merge)
-    (suited c.args.blocks.now c.args.p c.args.merge c.args.block.now c.requires.at c.requires.header (true_tells _ c.suits.result c.suits.ensures c.if-not-suits.false) c.requires.tidy))
+    (suited c.args.blocks.now c.args.p c.args.merge c.args.block.now c.requires.at c.requires.header (true_tells _ c.suits.result (rw c.terminator.ensures at c.suits.ensures) c.if-not-suits.false) c.requires.tidy))
     (false_tells _ c.is_shared.result c.is_shared.ensures c.if-is_shared.false))
     (ahead c.args.blocks.now c.args.p c.args.merge c.if-merge-p.false)
     in
@@ -50,7 +50,7 @@ returns-else-crosses c =
     none_more (BreaksMerge c.args.blocks.now c.args.p c.args.merge) 4
     (none_more (BreaksMerge c.args.blocks.now c.args.p c.args.merge) 3
     (none_more (BreaksMerge c.args.blocks.now c.args.p c.args.merge) 2 (merge_first c.args.blocks.now c.args.p c.args.merge)
-    (suited c.args.blocks.now c.args.p c.args.merge c.args.block.now c.requires.at c.requires.header (true_tells _ c.suits.result c.suits.ensures c.if-not-suits.false) c.requires.tidy))
+    (suited c.args.blocks.now c.args.p c.args.merge c.args.block.now c.requires.at c.requires.header (true_tells _ c.suits.result (rw c.terminator.ensures at c.suits.ensures) c.if-not-suits.false) c.requires.tidy))
     (false_tells _ c.is_shared.result c.is_shared.ensures c.if-is_shared.false))
     (ahead c.args.blocks.now c.args.p c.args.merge c.if-merge-p.false)
     in

@@ -10,12 +10,12 @@ returns-in_ok-push_edges-in-Edges c = rw c.in-Edges.is (λ bs at. c.in_ok-push_e
 pub returns-in_ok-push_backs-in-Backs : goal.returns-in_ok-push_backs-in-Backs
 returns-in_ok-push_backs-in-Backs c = rw c.in-Backs.is (λ bs at.
     backs_all bs c.args.p c.args.block.now c.args.spans.now.items c.push_backs.new.spans.items at
-    (subst (λ (xs : List ℕ). Extends (BackTarget c.args.p xs) c.args.spans.now.items c.push_backs.new.spans.items) c.as_slice.ensures c.in_ok-push_backs-in-Backs.ensures))
+    (subst (λ (xs : List ℕ). Extends (BackTarget c.args.p xs) c.args.spans.now.items c.push_backs.new.spans.items) c.targets.ensures c.in_ok-push_backs-in-Backs.ensures))
 
 pub returns-in_ok-push_returns-in-Returns : goal.returns-in_ok-push_returns-in-Returns
 returns-in_ok-push_returns-in-Returns c = rw c.in-Returns.is (λ bs at.
     returns_all bs c.args.p c.args.block.now c.args.spans.now.items c.push_returns.new.spans.items at
-    (subst (λ (xs : List ℕ). Extends (BackSource c.args.p xs) c.args.spans.now.items c.push_returns.new.spans.items) c.as_slice-in-Returns.ensures c.in_ok-push_returns-in-Returns.ensures))
+    (subst (λ (xs : List ℕ). Extends (BackSource c.args.p xs) c.args.spans.now.items c.push_returns.new.spans.items) c.targets-in-Returns.ensures c.in_ok-push_returns-in-Returns.ensures))
 
 pub returns-in_ok-push_span-in-Loops : goal.returns-in_ok-push_span-in-Loops
 returns-in_ok-push_span-in-Loops c = rw c.in-Loops.is (λ bs at.

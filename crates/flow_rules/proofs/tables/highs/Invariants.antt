@@ -1,5 +1,5 @@
 use Rattle.std.proofs.Common.{ℕ, ◌≡◌, ◌<◌, length, get_or}
-use Rattle.flow_rules.specs.declared.block.BasicBlock.{BasicBlock}
+use Rattle.flow_rules.specs.Blocks.{BasicBlock}
 use Rattle.flow_rules.specs.Flow.{At}
 use Rattle.flow_rules.specs.Lists.{IsHigh}
 use Rattle.flow_rules.proofs.tables.highs.Given as goal

@@ -1,5 +1,5 @@
 use Rattle.std.proofs.Common.{ℕ, List, subst, sym, ap, arith, length, length-append, ◌∷◌, []}
-use Rattle.flow_rules.specs.declared.block.BasicBlock.{BasicBlock}
+use Rattle.flow_rules.specs.Blocks.{BasicBlock}
 use Rattle.flow_rules.specs.Regular.{AreRegular, IsRegular}
 use Rattle.flow_rules.proofs.Regularity.{regular_more}
 use Rattle.flow_rules.proofs.tests.fault_of.Goals as goal

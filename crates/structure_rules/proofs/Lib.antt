@@ -1,4 +1,0 @@
-pub mod FewBlocks
-pub mod Made
-pub mod Numbered
-pub mod TableLaws
