@@ -6,6 +6,3 @@ mod labels;
 mod read;
 
 pub use read::blocks_of;
-
-#[cfg(test)]
-mod tests;

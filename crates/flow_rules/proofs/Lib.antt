@@ -11,5 +11,4 @@ pub mod Listing
 pub mod Merging
 pub mod Numbers
 pub mod Parts
-pub mod Regularity
 pub mod Starts

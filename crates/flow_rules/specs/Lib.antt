@@ -3,5 +3,4 @@ pub mod Blocks
 pub mod Flow
 pub mod Kept
 pub mod Lists
-pub mod Regular
 pub mod Rules

@@ -8,6 +8,3 @@ mod tables;
 
 pub use block::{BasicBlock, BlockList, Ending, Merge, MergeKind, MergeList, Terminator};
 pub use check::check_flow;
-
-#[cfg(test)]
-mod tests;

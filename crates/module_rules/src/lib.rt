@@ -4,7 +4,5 @@
 mod check;
 mod entry;
 mod tables;
-#[cfg(test)]
-mod tests;
 
 pub use check::check_rules;

@@ -5,8 +5,6 @@ mod file_words;
 mod header;
 mod operands;
 mod read;
-#[cfg(test)]
-mod tests;
 mod write;
 
 pub use operands::{is_id, last_of};

@@ -6,8 +6,6 @@ mod module;
 pub mod op;
 mod operands;
 mod shape;
-#[cfg(test)]
-mod tests;
 
 pub use fault::{CheckFault, WordRule};
 pub use module::{Inst, InstList, Module, VERSION_1_6};

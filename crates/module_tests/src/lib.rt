@@ -1,0 +1,19 @@
+//! Tests of the calls that read, write and check SPIR-V words.
+#![tactic(auto)]
+
+#[cfg(test)]
+mod blocks;
+#[cfg(test)]
+mod flow;
+#[cfg(test)]
+mod operands;
+#[cfg(test)]
+mod rules;
+#[cfg(test)]
+mod scans;
+#[cfg(test)]
+mod shader;
+#[cfg(test)]
+mod structure;
+#[cfg(test)]
+mod words;

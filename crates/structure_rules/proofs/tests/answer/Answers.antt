@@ -1,6 +1,0 @@
-use Rattle.std.proofs.Common.{arith}
-use Rattle.spirv_words.proofs.FileWordLaws.{length-words_of}
-use Rattle.structure_rules.proofs.tests.answer.Goals as goal
-
-pub check_module-requires-clause-short : goal.check_module-requires-clause-short
-check_module-requires-clause-short c = omega (arith, c.in_ok-module.ensures.exact.1.layout.ends, length-words_of c.args.bytes.now)
