@@ -9,8 +9,6 @@ mod instr;
 mod op;
 mod program;
 mod region;
-#[cfg(test)]
-mod tests;
 mod value;
 
 pub use block::{Block, BlockList, Entry, EntryList, InstrList, Phi, PhiList, Term};

@@ -3,8 +3,6 @@
 
 mod launch;
 mod rows;
-#[cfg(test)]
-mod tests;
 
 pub use launch::fits_launch;
 pub use rows::worked_rows;

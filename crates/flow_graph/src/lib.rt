@@ -12,6 +12,3 @@ mod walks;
 
 pub use graph_laws as laws;
 pub use linked::{Edge, Graph, MAX_EDGES, MAX_NODES};
-
-#[cfg(test)]
-mod tests;

@@ -6,8 +6,6 @@ mod line;
 mod progress;
 mod read;
 mod rules;
-#[cfg(test)]
-mod tests;
 
 pub use facts::{ModuleFacts, Signature};
 pub use line::{Body, BodyList, Line, LineList};

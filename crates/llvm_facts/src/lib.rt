@@ -7,8 +7,6 @@ mod read;
 mod roots;
 mod rows;
 mod tags;
-#[cfg(test)]
-mod tests;
 mod threads;
 
 pub use facts::{Facts, Row, RowList};

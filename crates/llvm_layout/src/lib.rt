@@ -5,8 +5,6 @@ pub mod code;
 mod letter;
 mod rows;
 mod table;
-#[cfg(test)]
-mod tests;
 mod walk;
 
 pub use letter::{Around, Form, Letter, Parts, Taken, back_from};

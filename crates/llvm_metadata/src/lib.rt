@@ -5,8 +5,6 @@ mod code;
 mod item;
 mod read;
 mod table;
-#[cfg(test)]
-mod tests;
 
 pub use item::{Meta, MetaItem, MetaList, Named, NamedList};
 pub use read::read_metadata;

@@ -3,7 +3,5 @@
 
 mod facts;
 mod read;
-#[cfg(test)]
-mod tests;
 
 pub use read::{Records, read_module_records};

@@ -5,8 +5,6 @@ mod code;
 mod kind;
 mod read;
 mod table;
-#[cfg(test)]
-mod tests;
 
 pub use kind::{LlvmType, TypeList, Types};
 pub use read::read_types;

@@ -11,8 +11,6 @@ mod list;
 mod module;
 mod rule;
 mod symbol;
-#[cfg(test)]
-mod tests;
 
 pub use check::check_values;
 pub use constant::{constant_of, type_after};

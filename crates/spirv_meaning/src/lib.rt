@@ -4,8 +4,6 @@
 mod laws;
 mod rows;
 mod site;
-#[cfg(test)]
-mod tests;
 
 pub use laws::{EmptyShader, StepMatching, empty_shader_is_same, same_by_matching, sites_begin};
 pub use rows::worked_rows;

@@ -1,4 +1,4 @@
-use super::*;
+use dxil_form::{OpKind, op_of};
 use std::test::Fail;
 
 #[test]

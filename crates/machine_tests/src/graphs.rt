@@ -1,6 +1,6 @@
 ghost use Rattle.std.specs.Prelude.{◌≡◌, ◌≢◌, ◌<◌, ◌≤◌, IfOk};
 
-use crate::{Edge, Graph, MAX_EDGES, MAX_NODES};
+use flow_graph::{Edge, Graph, MAX_EDGES, MAX_NODES};
 use std::alloc::Global;
 use std::process::Abort;
 use std::test::Fail;

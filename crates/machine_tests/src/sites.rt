@@ -1,5 +1,5 @@
-use super::*;
 use dx_base::List;
+use spirv_meaning::site_of;
 use spv_form::{Inst, Module, Operands, VERSION_1_6, op};
 use std::alloc::Global;
 use std::test::Fail;

@@ -1,6 +1,6 @@
-use super::*;
 use dx_base::{List, Numbers};
 use dxil_form::{Class, Kind, Program, Resource, ResourceList};
+use dxil_meaning::fits_launch;
 use std::alloc::Global;
 use std::test::Fail;
 

@@ -1,5 +1,5 @@
 use Rattle.std.proofs.Common.{◌≡◌}
-use Rattle.flow_graph.proofs.tests.reduce.Given as goal
+use Rattle.machine_tests.proofs.graphs.reduce.Given as goal
 
 abbrev pub invariant-loop : goal.invariant-loop
 invariant-loop l = l.graph.count ≡ l.count
