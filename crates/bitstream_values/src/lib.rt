@@ -8,8 +8,6 @@ mod form;
 mod number;
 mod record;
 mod row;
-#[cfg(test)]
-mod tests;
 mod value;
 mod values;
 

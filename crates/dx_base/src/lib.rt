@@ -4,8 +4,6 @@
 mod bits;
 mod fault;
 mod list;
-#[cfg(test)]
-mod tests;
 mod words;
 
 pub use bits::{BitCursor, Vbr};

@@ -12,8 +12,6 @@ mod reader;
 mod record;
 mod sound;
 mod stack;
-#[cfg(test)]
-mod tests;
 
 pub use bitstream_spelling::{Abbreviation, FieldList, Item, ItemList, Items, Operand};
 pub use read::read_items;

@@ -6,8 +6,6 @@
 ghost use Rattle.dx_file.specs.Laws.{OneContent, OneRefusal, ContentHasNoRefusal};
 
 mod read;
-#[cfg(test)]
-mod tests;
 
 pub use read::{File, read_file};
 

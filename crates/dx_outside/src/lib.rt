@@ -11,8 +11,6 @@ mod outside;
 mod read;
 mod sink;
 mod steady;
-#[cfg(test)]
-mod tests;
 mod text;
 
 pub use entry::Entry;

@@ -5,8 +5,6 @@ ghost use Rattle.std.specs.Prelude.{◌≤◌, ◌^◌, length};
 ghost use Rattle.dx_show.specs.Showing.{ShowAnswer};
 
 mod lines;
-#[cfg(test)]
-mod tests;
 mod text;
 
 use dx_base::{Bytes, Fault, OutOfMemory};

@@ -3,8 +3,6 @@
 
 mod part;
 mod read;
-#[cfg(test)]
-mod tests;
 
 pub use part::{Part, PartList, Parts};
 pub use read::read_container;

@@ -3,8 +3,6 @@
 
 mod blocks;
 mod item;
-#[cfg(test)]
-mod tests;
 
 pub use blocks::OpenBlocks;
 pub use item::{bit_of, code_of, fields_of, is_end, is_entry, is_record};

@@ -1,4 +1,4 @@
-use crate::{
+use dx_outside::{
     Files, HostFiles, HostSink, MemoryFiles, MemorySink, Outage, Sink, SteadyFiles, SteadySink,
     Whole, read_whole, say,
 };

@@ -1,17 +1,10 @@
 //! The lines of small containers, and of ones that were changed at a place or two.
 
-use crate::show;
+use crate::small::{SMALL, change};
 use dx_base::{Fault, Rule};
+use dx_show::show;
 use std::alloc::Global;
 use std::test::Fail;
-
-/// A container of one part, whose bitcode is a module with one record.
-const SMALL: [u8; 84] = [
-    0x44, 0x58, 0x42, 0x43, 0, 0, 0, 0, 0, 0, 0, 0, 0, 0, 0, 0, 0, 0, 0, 0, 1, 0, 0, 0, 0x54, 0, 0,
-    0, 1, 0, 0, 0, 0x24, 0, 0, 0, 0x44, 0x58, 0x49, 0x4C, 0x28, 0, 0, 0, 0x60, 0, 5, 0, 10, 0, 0,
-    0, 0x44, 0x58, 0x49, 0x4C, 0, 1, 0, 0, 0x10, 0, 0, 0, 0x10, 0, 0, 0, 0x42, 0x43, 0xC0, 0xDE,
-    0x21, 0x0C, 0, 0, 1, 0, 0, 0, 0x0B, 0x82, 0, 0,
-];
 
 /// The fixed bytes of a container with one part, up to its bitcode; the sizes are 0.
 const FRONT: [u8; 68] = [
@@ -46,11 +39,10 @@ fn container(alloc: Global, bitcode: &[u8]) -> Result<Vec<u8>, Fail> {
     let mut bytes = FRONT.to_vec(alloc)?;
     bytes.extend_from_slice(bitcode)?;
     let size = bitcode.len().min(100) as u8;
-    for (place, number) in [(24, size + 68), (40, size + 24), (64, size)] {
-        if place < bytes.len() {
-            bytes[place] = number;
-        }
-    }
+    change(
+        bytes.as_mut_slice(),
+        &[(24, size + 68), (40, size + 24), (64, size)],
+    );
     Ok(bytes)
 }
 
@@ -84,28 +76,32 @@ fn parts_blocks_and_records_have_lines(rt: HostRuntime) -> Result<(), Fail> {
     Ok(())
 }
 
+/// How many bytes are left, bytes that are set, and the first broken rule.
+const REFUSED: [(usize, [(usize, u8); 2], Rule, u64); 7] = [
+    (83, [(0, 0x44), (0, 0x44)], Rule::C(3), 192),
+    (83, [(24, 83), (0, 0x44)], Rule::C(5), 320),
+    (83, [(24, 83), (40, 39)], Rule::C(9), 480),
+    (84, [(73, 0x10), (80, 9)], Rule::B(3), 640),
+    (84, [(76, 2), (0, 0x44)], Rule::B(5), 576),
+    (84, [(73, 0x04), (0, 0x44)], Rule::B(8), 576),
+    (84, [(36, 0), (0, 0x44)], Rule::C(6), 288),
+];
+
 #[test]
 fn refusals_are_those_of_the_file(rt: HostRuntime) -> Result<(), Fail> {
-    // how many bytes are left, bytes that are set, and the first broken rule
-    let table: [(usize, [(usize, u8); 2], Rule, u64); 7] = [
-        (83, [(0, 0x44), (0, 0x44)], Rule::C(3), 192),
-        (83, [(24, 83), (0, 0x44)], Rule::C(5), 320),
-        (83, [(24, 83), (40, 39)], Rule::C(9), 480),
-        (84, [(73, 0x10), (80, 9)], Rule::B(3), 640),
-        (84, [(76, 2), (0, 0x44)], Rule::B(5), 576),
-        (84, [(73, 0x04), (0, 0x44)], Rule::B(8), 576),
-        (84, [(36, 0), (0, 0x44)], Rule::C(6), 288),
-    ];
-    for (length, changes, rule, bit) in table {
+    for (length, changes, rule, bit) in &REFUSED {
         let mut bytes = SMALL;
-        for (place, byte) in changes {
-            if place < bytes.len() {
-                bytes[place] = byte;
-            }
-        }
-        if length <= bytes.len() {
-            let fault = show(rt.alloc(), &bytes[..length]).err();
-            assert_eq!(rt; fault, Some(Fault::Refused { rule, bit }), "{rule:?} {bit}");
+        change(&mut bytes, changes);
+        if *length <= bytes.len() {
+            let fault = show(rt.alloc(), &bytes[..*length]).err();
+            assert_eq!(rt;
+                fault,
+                Some(Fault::Refused {
+                    rule: *rule,
+                    bit: *bit
+                }),
+                "{rule:?} {bit}"
+            );
         }
     }
     Ok(())

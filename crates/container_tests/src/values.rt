@@ -1,10 +1,10 @@
 //! Values in a few bits, which are worked out by hand.
 
-use crate::{
+use bitstream_spelling::{FieldList, Operand};
+use bitstream_values::{
     Coded, Entry, Given, Row, Seen, Stop, may_end, take_definition, take_entry, take_operand,
     take_plain, take_record,
 };
-use bitstream_spelling::{FieldList, Operand};
 use dx_base::{BitCursor, List};
 use std::test::Fail;
 

@@ -1,7 +1,7 @@
 //! The blocks that are open along a short list of items.
 
-use crate::{OpenBlocks, bit_of, fields_of};
 use bitstream_spelling::Item;
+use llvm_items::{OpenBlocks, bit_of, fields_of};
 use std::test::Fail;
 
 #[test]

@@ -1,14 +1,10 @@
-use crate::{BitCursor, Bytes, List, Vbr, Words, bytes_of};
+use crate::small::MODULE;
+use dx_base::{BitCursor, Bytes, List, Vbr, Words, bytes_of};
 use std::test::Fail;
-
-// A module block of width 3 with one record: code 1, and one field of 1.
-const STREAM: [u8; 16] = [
-    0x42, 0x43, 0xC0, 0xDE, 0x21, 0x0C, 0x00, 0x00, 0x01, 0x00, 0x00, 0x00, 0x0B, 0x82, 0x00, 0x00,
-];
 
 #[test]
 fn a_small_stream_is_read_bit_by_bit(rt: HostRuntime) -> Result<(), Fail> {
-    let mut cursor = BitCursor::new(&STREAM, 0, 128);
+    let mut cursor = BitCursor::new(&MODULE, 0, 128);
     assert_eq!(rt; cursor.fixed(32), Some(0xDEC0_4342));
     assert_eq!(rt; cursor.fixed(2), Some(1));
     assert_eq!(rt; cursor.vbr(8), Vbr::Value(8));
@@ -24,7 +20,7 @@ fn a_small_stream_is_read_bit_by_bit(rt: HostRuntime) -> Result<(), Fail> {
     assert_eq!(rt; cursor.align(), Some(()));
     assert_eq!(rt; cursor.at(), 128);
     assert_eq!(rt; cursor.fixed(1), None);
-    let mut other = BitCursor::new(&STREAM, 32, 128);
+    let mut other = BitCursor::new(&MODULE, 32, 128);
     assert_eq!(rt; other.forward(97), None);
     assert_eq!(rt; other.at(), 32);
     assert_eq!(rt; other.forward(64), Some(()));
