@@ -1,2 +1,3 @@
 pub mod Tables
-pub mod Widths
+pub mod Chunks
+pub mod Places

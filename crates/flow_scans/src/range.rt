@@ -1,17 +1,27 @@
-//! The greatest number of a range, by tables for the widths 1, 2, 4 and so on.
+//! The greatest number of a range, by the greatest numbers of aligned chunks of 16, 256, 4096 and so on.
 
-ghost use Rattle.std.specs.Prelude.{◌≡◌, ◌+◌, ◌-◌, ◌*◌, ◌<◌, ◌≤◌, ◌^◌, ◌↔◌, ℕ, length, slice_index, IfOk, OnOk, IsTrue};
-ghost use Rattle.flow_scans.specs.Ranges.{IsLevel, IsWide, AreLevels, Exceeds, Keeps, LastLevel};
+ghost use Rattle.std.specs.Prelude.{◌≡◌, ◌+◌, ◌<◌, ◌≤◌, ◌^◌, ◌↔◌, length, IfOk, IsTrue};
+ghost use Rattle.flow_scans.specs.Ranges.{IsMost, AreMaxima, AreLevels, Exceeds};
 
 use dx_base::OutOfMemory;
 use std::alloc::Global;
 use std::marker::Model;
 
-/// The places of the greatest numbers of all ranges of one width.
-#[derive(Clone, Copy, Debug)]
+/// How many entries one of the next level stands for.
+const FAN: usize = 16;
+
+/// The greatest numbers of the aligned chunks of one width.
+#[derive(Debug, Drop)]
 pub struct Level {
     width: usize,
-    start: usize,
+    maxima: Vec<u32>,
+}
+
+/// The greatest number of as many numbers.
+#[derive(Clone, Copy)]
+struct Chunk {
+    width: usize,
+    most: u32,
 }
 
 /// Numbers of which it can be told whether one in a range is above a bound. Contracts see the numbers.
@@ -19,7 +29,6 @@ pub struct Level {
 pub struct RangeMax {
     values: Vec<u32>,
     levels: Vec<Level>,
-    maxima: Vec<u32>,
 }
 
 impl Model for RangeMax {
@@ -30,107 +39,98 @@ impl Model for RangeMax {
 
     ghost view = { λ r. r.values.items };
 
-    ghost invariant = { λ r. AreLevels r.values.items r.levels.items r.maxima.items };
+    ghost invariant = { λ r. AreLevels r.values.items r.levels.items };
 }
 
-/// Puts the greatest numbers of the ranges of twice a level's width behind the others.
-fn widen(maxima: &mut Vec<u32>, values: &[u32], level: Level) -> Result<Level, OutOfMemory>
-    requires room { 2 * level.width ≤ length values.now }
-    requires count { length values.now < 2 ^ 32 }
-    requires level { IsLevel values.now maxima.old.items level }
-    ensures keeps { OnOk result (Keeps maxima.old.items maxima.new.items) }
-    ensures width { IfOk result (λ wide. wide.width ≡ 2 * level.width) }
-    ensures level { IfOk result (λ wide. IsLevel values.now maxima.new.items wide) }
+fn greatest(numbers: &[u32]) -> u32
+    requires { 0 < length numbers.now }
+    ensures { IsMost numbers.now 0 (length numbers.now) result }
 {
-    let start = maxima.len();
-    for i in 0..values.len() - 2 * level.width + 1 {
-        let left = maxima[level.start + i];
-        let right = maxima[level.start + i + level.width];
-        let most = if left < right { right } else { left };
+    let mut most = numbers[0];
+    for number in numbers {
+        if most < *number {
+            most = *number;
+        }
+    }
+    most
+}
+
+/// The greatest numbers of the chunks of 16 that lie whole within the numbers.
+fn chunk_maxima(alloc: Global, numbers: &[u32]) -> Result<Vec<u32>, OutOfMemory>
+    ensures { IfOk result (λ maxima. AreMaxima numbers.now 16 maxima.items) }
+{
+    let count = numbers.len() / FAN;
+    let mut maxima = match Vec::with_capacity(alloc, count) {
+        Ok(maxima) => maxima,
+        Err(_) => return Err(OutOfMemory),
+    };
+    for i in 0..count {
+        let most = greatest(&numbers[i * FAN..i * FAN + FAN]);
         if maxima.push(most).is_err() {
             return Err(OutOfMemory);
         }
     }
-    Ok(Level {
-        width: 2 * level.width,
-        start,
-    })
+    Ok(maxima)
 }
 
-/// The widest level that is not wider than `count`.
-fn fitting(levels: &[Level], maxima: &[u32], values: &[u32], count: usize) -> Level
-    requires levels { AreLevels values.now levels.now maxima.now }
-    requires some { 0 < count }
-    requires within { count ≤ length values.now }
-    ensures level { IsLevel values.now maxima.now result }
-    ensures fits { result.width ≤ count }
-    ensures wide { count < 2 * result.width }
-{
-    let mut at = 0;
-    while at + 1 < levels.len() && levels[at + 1].width <= count {
-        at += 1;
-    }
-    levels[at]
-}
-
-/// Tells whether a number in the range is above the bound, by the two ranges of a level's width that it is made of.
-fn is_above(
-    maxima: &[u32],
-    values: &[u32],
-    level: Level,
-    from: usize,
-    to: usize,
-    bound: u32,
-) -> bool
-    requires level { IsLevel values.now maxima.now level }
+/// The widest chunk that begins at the place and ends by `to`.
+fn chunk_at(values: &[u32], levels: &[Level], place: usize, to: usize) -> Chunk
+    requires levels { AreLevels values.now levels.now }
+    requires some { place < to }
     requires within { to ≤ length values.now }
-    requires fits { from + level.width ≤ to }
-    requires wide { to < from + 2 * level.width }
-    ensures { IsTrue result ↔ Exceeds values.now from to bound }
+    ensures most { IsMost values.now place result.width result.most }
+    ensures fits { place + result.width ≤ to }
+    ensures some { 0 < result.width }
 {
-    let last = to - level.width;
-    let left = maxima[level.start + from];
-    let right = maxima[level.start + last];
-    left > bound || right > bound
+    let mut chunk = Chunk {
+        width: 1,
+        most: values[place],
+    };
+    for level in levels {
+        if place % level.width != 0 || level.width > to - place {
+            break;
+        }
+        chunk = Chunk {
+            width: level.width,
+            most: level.maxima[place / level.width],
+        };
+    }
+    chunk
 }
 
 impl RangeMax {
-    /// Makes the table of these numbers, in n log n time and memory.
+    /// Makes the table of these numbers, in linear time and with a fifteenth more memory than theirs.
     pub fn new(alloc: Global, values: Vec<u32>) -> Result<RangeMax, OutOfMemory>
         requires { length values.items < 2 ^ 32 }
         ensures { IfOk result (λ r. r ≡ values.items) }
     {
-        let mut maxima = match Vec::from_slice(alloc, values.as_slice()) {
-            Ok(maxima) => maxima,
-            Err(_) => return Err(OutOfMemory),
-        };
-        let mut level = Level { width: 1, start: 0 };
         let mut levels = Vec::new(alloc);
-        if levels.push(level).is_err() {
-            return Err(OutOfMemory);
-        }
-        while level.width <= values.len() / 2 {
-            level = widen(&mut maxima, values.as_slice(), level)?;
-            if levels.push(level).is_err() {
+        let mut width = FAN;
+        let mut maxima = chunk_maxima(alloc, values.as_slice())?;
+        while !maxima.is_empty() {
+            let wider = chunk_maxima(alloc, maxima.as_slice())?;
+            if levels.push(Level { width, maxima }).is_err() {
                 return Err(OutOfMemory);
             }
+            width *= FAN;
+            maxima = wider;
         }
-        Ok(RangeMax {
-            values,
-            levels,
-            maxima,
-        })
+        Ok(RangeMax { values, levels })
     }
 
-    /// Tells whether a number in the range `from..to` is above the bound.
+    /// Tells whether a number in the range `from..to` is above the bound, in logarithmic time.
     pub fn exceeds(&self, from: usize, to: usize, bound: u32) -> bool
         requires { to ≤ length self.now }
         ensures { IsTrue result ↔ Exceeds self.now from to bound }
     {
-        if to <= from {
-            return false;
+        let mut place = from;
+        while place < to {
+            let chunk = chunk_at(&self.values, &self.levels, place, to);
+            if chunk.most > bound {
+                return true;
+            }
+            place += chunk.width;
         }
-        let level = fitting(&self.levels, &self.maxima, &self.values, to - from);
-        is_above(&self.maxima, &self.values, level, from, to, bound)
+        false
     }
 }
