@@ -1,6 +1,6 @@
 use super::*;
 use dx_base::List;
-use spv_form::{Inst, Module, VERSION_1_6, op};
+use spv_form::{Inst, Module, Operands, VERSION_1_6, op};
 use std::alloc::Global;
 use std::test::Fail;
 
@@ -8,7 +8,7 @@ use std::test::Fail;
 fn module_of(alloc: Global, insts: &[(u16, &[u32])]) -> Result<Module, &'static str> {
     let mut list = List::new(alloc);
     for (opcode, words) in insts {
-        let mut operands = List::new(alloc);
+        let mut operands = Operands::new(alloc);
         for word in *words {
             operands.push(*word).map_err(|_| "memory")?;
         }

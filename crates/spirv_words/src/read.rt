@@ -6,8 +6,8 @@ ghost use Rattle.spirv_words.specs.Reading.{ReadAnswer, ReadsBack, WordsAnswer, 
 use crate::file_words::FileWords;
 use crate::header;
 use crate::operands::{bad_id, fits, string_ends};
-use dx_base::{List, OutOfMemory, Words};
-use spv_form::{CheckFault, Inst, InstList, Module, VERSION_1_6, WordRule, shape_of};
+use dx_base::{List, OutOfMemory};
+use spv_form::{CheckFault, Inst, InstList, Module, Operands, VERSION_1_6, WordRule, shape_of};
 use std::alloc::Global;
 
 /// The module that the words of a file hold.
@@ -128,16 +128,14 @@ fn read_operands(
     words: &FileWords,
     from: usize,
     count: usize,
-) -> Result<Words, OutOfMemory>
+) -> Result<Operands, OutOfMemory>
     requires few { length words.now ≤ 2 ^ 24 }
     requires within { from + count ≤ length words.now }
     ensures { IfOk result (λ operands. operands ≡ take count (drop from words.now)) }
 {
-    let mut operands = List::new(alloc);
+    let mut operands = Operands::new(alloc);
     for place in 0..count {
-        if operands.push(words.at(from + place)).is_err() {
-            return Err(OutOfMemory);
-        }
+        operands.push(words.at(from + place))?;
     }
     Ok(operands)
 }
