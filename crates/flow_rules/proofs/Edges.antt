@@ -78,10 +78,10 @@ module _ (bs : List BasicBlock) (p q : ℕ) where
           q_in = at_below bs q loop.loops.header.block loop.loops.header.at
 
           a : ℕ
-          a = get_or t.first_backs.items q 0
+          a = get_or t.first_backs q 0
 
           z : ℕ
-          z = get_or t.last_backs.items q 0
+          z = get_or t.last_backs q 0
 
           none : (a < 2 ^ 32 - 1 → a ≡ z → ⊥) → ⊥
           none other = heads.heads q loop.by 6 back loop.loops.header (s6 loop.continue_target loop.loops (sole_none bs small q a z (ts.first_backs.each q q_in) (ts.last_backs.each q q_in) other))

@@ -261,17 +261,17 @@ module _ (bs : List BasicBlock) where
     pub each : (q : ℕ) (b : BasicBlock) → At bs q b → IsLow b (slice_index values q)
 
   pub record AreTables (t : Tables) : Type 0 where
-    pub sources : LeastTable (SpanOf EdgeOf) (length bs) t.sources.items
-    pub mergers : LeastTable (SpanOf HeaderOf) (length bs) t.mergers.items
-    pub first_backs : LeastTable (SpanOf BackOf) (length bs) t.first_backs.items
-    pub last_backs : GreatestTable (SpanOf BackTo) (length bs) t.last_backs.items
-    pub nested_ends : EndTable (SpanOf NestedOf) 1 (length bs) t.nested_ends.items
-    pub row_ends : EndTable (SpanOf RowOf) 1 (length bs) t.row_ends.items
-    pub row_overs : OverTable (SpanOf RowOf) 1 (length bs) t.row_overs.items
-    pub left_ends : EndTable (SpanOf LeftOf) 0 (length bs) t.left_ends.items
-    pub body_ends : EndTable (SpanOf BodyOf) 0 (length bs) t.body_ends.items
-    pub loops : OverTable (SpanOf LoopOf) 0 (length bs) t.loops.items
-    pub switches : OverTable (SpanOf SwitchOf) 0 (length bs) t.switches.items
-    pub case_froms : LeastTable (SpanOf CaseFrom) (length bs) t.case_froms.items
+    pub sources : LeastTable (SpanOf EdgeOf) (length bs) t.sources
+    pub mergers : LeastTable (SpanOf HeaderOf) (length bs) t.mergers
+    pub first_backs : LeastTable (SpanOf BackOf) (length bs) t.first_backs
+    pub last_backs : GreatestTable (SpanOf BackTo) (length bs) t.last_backs
+    pub nested_ends : EndTable (SpanOf NestedOf) 1 (length bs) t.nested_ends
+    pub row_ends : EndTable (SpanOf RowOf) 1 (length bs) t.row_ends
+    pub row_overs : OverTable (SpanOf RowOf) 1 (length bs) t.row_overs
+    pub left_ends : EndTable (SpanOf LeftOf) 0 (length bs) t.left_ends
+    pub body_ends : EndTable (SpanOf BodyOf) 0 (length bs) t.body_ends
+    pub loops : OverTable (SpanOf LoopOf) 0 (length bs) t.loops
+    pub switches : OverTable (SpanOf SwitchOf) 0 (length bs) t.switches
+    pub case_froms : LeastTable (SpanOf CaseFrom) (length bs) t.case_froms
     pub lows : AreLows t.lows
     pub highs : AreHighs t.highs

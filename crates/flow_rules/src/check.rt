@@ -1,6 +1,6 @@
 //! The structure rules, asked block by block in word order.
 
-ghost use Rattle.std.specs.Prelude.{◌≡◌, ◌≢◌, ◌+◌, ◌-◌, ◌<◌, ◌≤◌, ◌^◌, ◌↔◌, ◌⊎◌, ◌∷◌, [], ℕ, length, slice_index, IsTrue, Some, None};
+ghost use Rattle.std.specs.Prelude.{◌≡◌, ◌≢◌, ◌+◌, ◌-◌, ◌<◌, ◌≤◌, ◌^◌, ◌↔◌, ◌⊎◌, ◌∷◌, [], ℕ, length, IsTrue, Some, None};
 ghost use Rattle.flow_rules.specs.declared.block.Merge.{Merge as MergeAt};
 ghost use Rattle.flow_rules.specs.declared.block.Terminator.TheVariants.{BranchConditional};
 ghost use Rattle.flow_rules.specs.Flow.{At, Edge, Header, Loops, SoleBack, BackEdge};
@@ -22,14 +22,6 @@ pub struct Fault {
     word: u32,
 }
 
-/// The number of a block in a table.
-fn number(table: &Vec<u32>, p: usize) -> u32
-    requires { p < length table.now.items }
-    ensures { result ≡ slice_index table.now.items p }
-{
-    table[p]
-}
-
 /// Whether S12 is broken at the label of a block.
 fn breaks_label(tables: &Tables, blocks: &[BasicBlock], p: usize) -> bool
     requires small { length blocks.now < 2 ^ 32 }
@@ -38,9 +30,9 @@ fn breaks_label(tables: &Tables, blocks: &[BasicBlock], p: usize) -> bool
     ensures { Tells result (BreaksLabel blocks.now p 12) }
 {
     if p == 0 {
-        number(&tables.sources, p) < u32::MAX
+        tables.sources.at(p) < u32::MAX
     } else {
-        p <= number(&tables.sources, p) as usize
+        p <= tables.sources.at(p) as usize
     }
 }
 
@@ -73,7 +65,7 @@ fn is_shared(tables: &Tables, blocks: &[BasicBlock], p: usize, merge: Merge) -> 
     requires tidy { IsTidy blocks.now p }
     ensures { Tells result (BreaksMerge blocks.now p merge 3) }
 {
-    (number(&tables.mergers, merge.merge_block as usize) as usize) < p
+    (tables.mergers.at(merge.merge_block as usize) as usize) < p
 }
 
 /// The block from which all back edges to a block come, where there is one.
@@ -83,8 +75,8 @@ fn sole_back(tables: &Tables, blocks: &[BasicBlock], p: usize) -> Option<u32>
     requires within { p < length blocks.now }
     ensures { SoleAnswer result blocks.now p }
 {
-    let first = number(&tables.first_backs, p);
-    let last = number(&tables.last_backs, p);
+    let first = tables.first_backs.at(p);
+    let last = tables.last_backs.at(p);
     if first < u32::MAX && first == last {
         Some(first)
     } else {
@@ -103,7 +95,7 @@ fn crosses(tables: &Tables, blocks: &[BasicBlock], p: usize, merge: Merge) -> bo
     requires target { BreaksMerge blocks.now p merge 5 → ⊥ }
     ensures { Tells result (BreaksMerge blocks.now p merge 7) }
 {
-    number(&tables.nested_ends, p) < merge.merge_block
+    tables.nested_ends.at(p) < merge.merge_block
 }
 
 /// Whether one of the blocks `from..to` returns or branches out of the row `first..end`.
@@ -353,11 +345,11 @@ fn may_leave(tables: &Tables, blocks: &[BasicBlock], p: usize, q: u32) -> bool
     requires ahead { p < q }
     ensures { Tells result (MayLeave blocks.now p q) }
 {
-    let inner = number(&tables.loops, p);
+    let inner = tables.loops.at(p);
     if leaves_loop(blocks, inner, q) {
         return true;
     }
-    let switch = number(&tables.switches, p);
+    let switch = tables.switches.at(p);
     if switch < inner {
         return false;
     }
@@ -378,10 +370,10 @@ fn back_rule(tables: &Tables, blocks: &[BasicBlock], p: usize, q: u32) -> Option
         Some(_) => {}
         None => return Some(6),
     }
-    if number(&tables.row_ends, q as usize) as usize <= p {
+    if tables.row_ends.at(q as usize) as usize <= p {
         return Some(9);
     }
-    if number(&tables.loops, p) as usize != q as usize + 1 {
+    if tables.loops.at(p) as usize != q as usize + 1 {
         return Some(10);
     }
     None
@@ -401,10 +393,10 @@ fn breaks_out(tables: &Tables, blocks: &[BasicBlock], p: usize, q: u32) -> bool
     if may_leave(tables, blocks, p, q) {
         return false;
     }
-    if number(&tables.left_ends, p) < q {
+    if tables.left_ends.at(p) < q {
         return true;
     }
-    number(&tables.body_ends, p) <= q
+    tables.body_ends.at(p) <= q
 }
 
 /// The least rule that is broken at a branch edge ahead from `p` to `q`.
@@ -418,13 +410,13 @@ fn forward_rule(tables: &Tables, blocks: &[BasicBlock], p: usize, q: u32) -> Opt
     requires merges { IsMergeClear blocks.now p }
     ensures { RuleAnswer result (BreaksEdge blocks.now p q) }
 {
-    if p + 1 < number(&tables.row_overs, q as usize) as usize {
+    if p + 1 < tables.row_overs.at(q as usize) as usize {
         return Some(9);
     }
     if breaks_out(tables, blocks, p, q) {
         return Some(10);
     }
-    if number(&tables.case_froms, q as usize) as usize <= p {
+    if tables.case_froms.at(q as usize) as usize <= p {
         return Some(11);
     }
     None

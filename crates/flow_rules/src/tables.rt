@@ -8,36 +8,38 @@ ghost use Rattle.flow_rules.specs.Lists.{OfFamily, SpanOf, LeastTable, GreatestT
 use crate::block::{BasicBlock, Terminator};
 use crate::lists::{Family, spans_of};
 use dx_base::OutOfMemory;
-use flow_scans::{RangeMax, first_ends, greatest_ends, last_holders, last_overs, least_firsts};
+use flow_scans::{
+    RangeMax, Runs, first_ends, greatest_ends, last_holders, last_overs, least_firsts,
+};
 use std::alloc::Global;
 
 /// Numbers for each block.
 #[derive(Debug, Drop)]
 pub struct Tables {
     /// The first block with a structural edge to it.
-    pub(crate) sources: Vec<u32>,
+    pub(crate) sources: Runs,
     /// The first header whose merge block it is.
-    pub(crate) mergers: Vec<u32>,
+    pub(crate) mergers: Runs,
     /// The first block with a back edge to it.
-    pub(crate) first_backs: Vec<u32>,
+    pub(crate) first_backs: Runs,
     /// The last block with a back edge to it.
-    pub(crate) last_backs: Vec<u32>,
+    pub(crate) last_backs: Runs,
     /// The first end of a row around it that begins at or behind its header.
-    pub(crate) nested_ends: Vec<u32>,
+    pub(crate) nested_ends: Runs,
     /// The first end of a row around it.
-    pub(crate) row_ends: Vec<u32>,
+    pub(crate) row_ends: Runs,
     /// The last row around it.
-    pub(crate) row_overs: Vec<u32>,
+    pub(crate) row_overs: Runs,
     /// The first end of a selection or continue construct that holds it.
-    pub(crate) left_ends: Vec<u32>,
+    pub(crate) left_ends: Runs,
     /// The first end of a loop construct that holds it.
-    pub(crate) body_ends: Vec<u32>,
+    pub(crate) body_ends: Runs,
     /// The last loop that holds it.
-    pub(crate) loops: Vec<u32>,
+    pub(crate) loops: Runs,
     /// The last switch whose selection construct holds it.
-    pub(crate) switches: Vec<u32>,
+    pub(crate) switches: Runs,
     /// The first case construct of a switch that has one which begins at it.
-    pub(crate) case_froms: Vec<u32>,
+    pub(crate) case_froms: Runs,
     /// How far its least target lies below the greatest number.
     pub(crate) lows: RangeMax,
     /// Its greatest target.
@@ -180,6 +182,14 @@ fn lows(alloc: Global, blocks: &[BasicBlock]) -> Result<RangeMax, OutOfMemory>
     Ok(table)
 }
 
+/// The table in less memory: most of its numbers are those of the block before.
+fn kept(alloc: Global, table: Vec<u32>) -> Result<Runs, OutOfMemory>
+    requires { length table.items < 2 ^ 32 }
+    ensures { IfOk result (λ runs. runs ≡ table.items) }
+{
+    Runs::of(alloc, table.as_slice())
+}
+
 impl Tables {
     /// Makes the tables of these blocks, in n log n time and memory.
     pub fn new(alloc: Global, blocks: &[BasicBlock]) -> Result<Tables, OutOfMemory>
@@ -187,18 +197,18 @@ impl Tables {
         requires numbered { IsNumbered blocks.now }
         ensures { IfOk result (λ t. AreTables blocks.now t) }
     {
-        let sources = least_table(alloc, Family::Edges, blocks)?;
-        let mergers = least_table(alloc, Family::Headers, blocks)?;
-        let first_backs = least_table(alloc, Family::Backs, blocks)?;
-        let last_backs = greatest_table(alloc, Family::Returns, blocks)?;
-        let nested_ends = end_table(alloc, Family::Nested, blocks, 1)?;
-        let row_ends = end_table(alloc, Family::Rows, blocks, 1)?;
-        let row_overs = over_table(alloc, Family::Rows, blocks)?;
-        let left_ends = end_table(alloc, Family::Lefts, blocks, 0)?;
-        let body_ends = end_table(alloc, Family::Bodies, blocks, 0)?;
-        let loops = holder_table(alloc, Family::Loops, blocks)?;
-        let switches = holder_table(alloc, Family::Switches, blocks)?;
-        let case_froms = least_table(alloc, Family::CaseFroms, blocks)?;
+        let sources = kept(alloc, least_table(alloc, Family::Edges, blocks)?)?;
+        let mergers = kept(alloc, least_table(alloc, Family::Headers, blocks)?)?;
+        let first_backs = kept(alloc, least_table(alloc, Family::Backs, blocks)?)?;
+        let last_backs = kept(alloc, greatest_table(alloc, Family::Returns, blocks)?)?;
+        let nested_ends = kept(alloc, end_table(alloc, Family::Nested, blocks, 1)?)?;
+        let row_ends = kept(alloc, end_table(alloc, Family::Rows, blocks, 1)?)?;
+        let row_overs = kept(alloc, over_table(alloc, Family::Rows, blocks)?)?;
+        let left_ends = kept(alloc, end_table(alloc, Family::Lefts, blocks, 0)?)?;
+        let body_ends = kept(alloc, end_table(alloc, Family::Bodies, blocks, 0)?)?;
+        let loops = kept(alloc, holder_table(alloc, Family::Loops, blocks)?)?;
+        let switches = kept(alloc, holder_table(alloc, Family::Switches, blocks)?)?;
+        let case_froms = kept(alloc, least_table(alloc, Family::CaseFroms, blocks)?)?;
         let lows = lows(alloc, blocks)?;
         let highs = highs(alloc, blocks)?;
         Ok(Tables {

@@ -10,5 +10,5 @@ pub returns : goal.returns
 returns c =
     let within = at_below c.args.blocks.now c.args.p c.requires.header.block c.requires.header.at in
     let below = c.requires.numbered.targets c.args.p c.args.merge.merge_block (by_merge c.args.merge c.requires.header refl) in
-    subst (λ (v : ℕ). Tells (ltb v c.args.merge.merge_block) (BreaksMerge c.args.blocks.now c.args.p c.args.merge 7)) (sym c.number.ensures)
+    subst (λ (v : ℕ). Tells (ltb v c.args.merge.merge_block) (BreaksMerge c.args.blocks.now c.args.p c.args.merge 7)) (sym c.at.ensures)
     (crosses_at c.args.blocks.now c.requires.small c.args.p _ c.args.merge c.requires.header c.requires.clear (c.requires.tables.nested_ends.each c.args.p within) below c.requires.ahead c.requires.target)

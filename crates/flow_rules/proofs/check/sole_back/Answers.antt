@@ -6,14 +6,14 @@ use Rattle.flow_rules.proofs.check.sole_back.Goals.{else-first-lt4294967295-via-
 
 pub returns-then-first-last : goal.returns-then-first-last
 returns-then-first-last c =
-    subst (λ (v : ℕ). SoleBack c.args.blocks.now c.args.p v) (sym c.number-first.ensures)
+    subst (λ (v : ℕ). SoleBack c.args.blocks.now c.args.p v) (sym c.at-first.ensures)
     (sole_found c.args.blocks.now c.requires.small c.args.p _ _ (c.requires.tables.first_backs.each c.args.p c.requires.within) (c.requires.tables.last_backs.each c.args.p c.requires.within)
-    (omega (arith, c.number-first.ensures)) (omega (arith, c.number-first.ensures, c.number-last.ensures)))
+    (omega (arith, c.at-first.ensures)) (omega (arith, c.at-first.ensures, c.at-last.ensures)))
 
 pub returns-else-first-lt4294967295 : goal.returns-else-first-lt4294967295
 returns-else-first-lt4294967295 c =
     sole_none c.args.blocks.now c.requires.small c.args.p _ _ (c.requires.tables.first_backs.each c.args.p c.requires.within) (c.requires.tables.last_backs.each c.args.p c.requires.within)
     (λ low same. elim c.else-first-lt4294967295.branch [
-      | else-first-lt4294967295-via-then-first-lt4294967295+else-first-last w ↦ w.if-first-last.false (c.number-first.ensures ∙ same ∙ sym c.number-last.ensures)
-      | else-first-lt4294967295-via-else-first-lt4294967295 w ↦ absurd (omega (arith, c.number-first.ensures))
+      | else-first-lt4294967295-via-then-first-lt4294967295+else-first-last w ↦ w.if-first-last.false (c.at-first.ensures ∙ same ∙ sym c.at-last.ensures)
+      | else-first-lt4294967295-via-else-first-lt4294967295 w ↦ absurd (omega (arith, c.at-first.ensures))
     ])
