@@ -156,7 +156,10 @@ fn highs(alloc: Global, blocks: &[BasicBlock]) -> Result<RangeMax, OutOfMemory>
     requires { length blocks.now < 2 ^ 32 }
     ensures { IfOk result (λ v. AreHighs blocks.now v) }
 {
-    let mut values = Vec::new(alloc);
+    let mut values = match Vec::with_capacity(alloc, blocks.len()) {
+        Ok(values) => values,
+        Err(_) => return Err(OutOfMemory),
+    };
     for p in 0..blocks.len() {
         match values.push(high_of(&blocks[p])) {
             Ok(()) => {}
@@ -171,7 +174,10 @@ fn lows(alloc: Global, blocks: &[BasicBlock]) -> Result<RangeMax, OutOfMemory>
     requires { length blocks.now < 2 ^ 32 }
     ensures { IfOk result (λ v. AreLows blocks.now v) }
 {
-    let mut values = Vec::new(alloc);
+    let mut values = match Vec::with_capacity(alloc, blocks.len()) {
+        Ok(values) => values,
+        Err(_) => return Err(OutOfMemory),
+    };
     for p in 0..blocks.len() {
         match values.push(low_of(&blocks[p])) {
             Ok(()) => {}
@@ -191,7 +197,7 @@ fn kept(alloc: Global, table: Vec<u32>) -> Result<Runs, OutOfMemory>
 }
 
 impl Tables {
-    /// Makes the tables of these blocks, in n log n time and memory.
+    /// Makes the tables of these blocks, in n log n time and linear memory.
     pub fn new(alloc: Global, blocks: &[BasicBlock]) -> Result<Tables, OutOfMemory>
         requires small { length blocks.now < 2 ^ 32 }
         requires numbered { IsNumbered blocks.now }
