@@ -7,7 +7,7 @@ program=crates/dxil_cli/out/dxil_cli
 [ -x "$program" ] || { echo "no program: run 'make demo' first"; exit 1; }
 folder=$(mktemp -d)
 trap 'rm -rf "$folder"' EXIT
-for kind in "bare 1" "bare 100000" "bare 1398000" "path 100000" "path 1040000" "chain 50000 0" "chain 50000 32" "loops 33000" "switches 6 16383" "nested 1023" "constants 4194000" "names 2390000"; do
+for kind in "bare 1" "bare 100000" "bare 1398000" "path 100000" "path 1040000" "chain 50000 0" "chain 50000 32" "loops 33000" "switches 6 16383" "nested 1023" "constants 4194000" "names 2390000" "strays 100000" "returns 16777000" "loads 4194000"; do
   # shellcheck disable=SC2086
   python3 bench/modules.py $kind "$folder/in.spv" || exit 1
   bytes=$(stat -c %s "$folder/in.spv")

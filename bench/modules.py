@@ -9,6 +9,9 @@
     python3 bench/modules.py bare N OUT          N blocks that return at once and that nothing branches to
     python3 bench/modules.py constants N OUT     N constants
     python3 bench/modules.py names N OUT         N constants, each with a name of one letter
+    python3 bench/modules.py returns N OUT       N returns and nothing else, which is refused
+    python3 bench/modules.py loads N OUT         N loads and nothing else, which is refused
+    python3 bench/modules.py strays N OUT        N blocks, each with a merge instruction too many, which is refused
 
 50,000 selections of 32 additions make a module of about 2^24 words.
 """
@@ -19,7 +22,7 @@ import sys
 VOID, FUNCTION_TYPE, MAIN, BOOL, TRUE, WORD, ONE = range(1, 8)
 FIRST_FREE = 8
 LABEL, BRANCH, BRANCH_IF, SWITCH, RETURN = 248, 249, 250, 251, 253
-LOOP_MERGE, SELECTION_MERGE, ADD = 246, 247, 128
+LOOP_MERGE, SELECTION_MERGE, ADD, LOAD = 246, 247, 128, 61
 
 
 class Module:
@@ -152,6 +155,24 @@ def bare(module, count):
         module.put(RETURN)
 
 
+def strays(module, count):
+    for _ in range(count):
+        label = module.take()
+        module.put(LABEL, label)
+        module.put(SELECTION_MERGE, label, 0)
+        module.put(RETURN)
+
+
+def returns(module, count):
+    for _ in range(count):
+        module.put(RETURN)
+
+
+def loads(module, count):
+    for _ in range(count):
+        module.put(LOAD, WORD, module.take(), ONE)
+
+
 def main(words):
     kinds = {
         "chain": (chain, 2),
@@ -162,6 +183,9 @@ def main(words):
         "bare": (bare, 1),
         "constants": (bare, 1),
         "names": (bare, 1),
+        "strays": (strays, 1),
+        "returns": (returns, 1),
+        "loads": (loads, 1),
     }
     if len(words) < 2 or words[0] not in kinds or len(words) != kinds[words[0]][1] + 2:
         sys.exit(__doc__)
