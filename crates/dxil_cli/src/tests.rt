@@ -4,6 +4,7 @@ use crate::example::{CONTAINER, MODULE, SHARED_MERGE};
 use crate::{Status, run};
 use dx_outside::{Files, MemoryFiles, MemorySink, Outage, Sink, SteadyFiles, SteadySink};
 use std::alloc::Global;
+use std::process::Abort;
 use std::test::Fail;
 
 const USAGE: &[u8] = b"usage: translate IN OUT, show IN, check IN, sample N OUT\n";
@@ -229,19 +230,20 @@ const FILES: [FileCase; 12] = [
 
 /// Compares what `translate` and `show` say of a file that `translate` refuses.
 fn expect_lines(
-    rt: &HostRuntime,
+    rt: &impl Abort,
+    alloc: Global,
     bytes: &[u8],
     changes: &[(usize, u8)],
     translated: &[u8],
     shown: &[u8],
 ) -> Result<(), Fail> {
-    let bytes = changed(rt.alloc(), bytes, changes)?;
+    let bytes = changed(alloc, bytes, changes)?;
     let bytes = bytes.as_slice();
-    let (status, written, out) = attempt(rt.alloc(), &TRANSLATE, bytes, NEVER, NEVER)?;
+    let (status, written, out) = attempt(alloc, &TRANSLATE, bytes, NEVER, NEVER)?;
     assert_eq!(rt; status, Status::Refused, "{changes:?}");
     assert!(rt; written.is_none(), "{changes:?}");
     assert_eq!(rt; out.taken(), translated, "{changes:?}");
-    let (status, written, out) = attempt(rt.alloc(), &SHOW, bytes, NEVER, NEVER)?;
+    let (status, written, out) = attempt(alloc, &SHOW, bytes, NEVER, NEVER)?;
     let done = !shown.is_empty();
     assert_eq!(rt; status == Status::Done, done, "{changes:?}");
     assert_eq!(rt; status == Status::Refused, !done, "{changes:?}");
@@ -258,7 +260,7 @@ fn expect_lines(
 fn files_have_these_answers(rt: HostRuntime) -> Result<(), Fail> {
     for (bytes, length, changes, translated, shown) in FILES {
         let bytes = &bytes[..length.min(bytes.len())];
-        expect_lines(&rt, bytes, changes, translated, shown)?;
+        expect_lines(&rt, rt.alloc(), bytes, changes, translated, shown)?;
     }
     Ok(())
 }
@@ -269,8 +271,8 @@ fn a_second_dxil_part_is_refused(rt: HostRuntime) -> Result<(), Fail> {
     two.extend_from_slice(&SMALL[36..])?;
     two.extend_from_slice(&SMALL[36..])?;
     let refused = b"refused C7 bit 288\n".as_slice();
-    expect_lines(&rt, two.as_slice(), &[], refused, b"")?;
-    expect_lines(&rt, two.as_slice(), &[(92, 41)], refused, b"")?;
+    expect_lines(&rt, rt.alloc(), two.as_slice(), &[], refused, b"")?;
+    expect_lines(&rt, rt.alloc(), two.as_slice(), &[(92, 41)], refused, b"")?;
     Ok(())
 }
 

@@ -5,7 +5,7 @@ use Rattle.dxil_cli.proofs.Leaving.{made_accepted, made_word_refusal}
 use Rattle.dxil_cli.proofs.output.report_for.Goals as goal
 
 pub returns-in-Ok : goal.returns-in-Ok
-returns-in-Ok c = made_accepted c.accepted.result c.args.bytes _ refl c.in-Ok.ensures c.accepted.ensures.status c.accepted.ensures.bytes (rw c.len.ensures at c.accepted.ensures.text)
+returns-in-Ok c = made_accepted c.accepted.result c.args.bytes _ refl c.in-Ok.ensures c.accepted.ensures.status c.accepted.ensures.bytes (rw c.len-count.ensures at c.accepted.ensures.text)
 
 pub returns-in-Err-Refused : goal.returns-in-Err-Refused
 returns-in-Err-Refused c = made_word_refusal c.word_refusal.result c.args.bytes c.in-Err-Refused.rule c.in-Err-Refused.word
