@@ -12,6 +12,11 @@
     python3 bench/modules.py returns N OUT       N returns and nothing else, which is refused
     python3 bench/modules.py loads N OUT         N loads and nothing else, which is refused
     python3 bench/modules.py strays N OUT        N blocks, each with a merge instruction too many, which is refused
+    python3 bench/modules.py labels N OUT        N labels and nothing else, which is refused
+    python3 bench/modules.py functions N OUT     N function types that are not listed, which is refused
+    python3 bench/modules.py marks N OUT         N ids with a decoration each, which are not defined: it is refused
+    python3 bench/modules.py merges N OUT        N merge instructions and nothing else, which is refused
+    python3 bench/modules.py fans N PAIRS OUT    N switches one after the other, whose PAIRS cases all go to one block
 
 50,000 selections of 32 additions make a module of about 2^24 words.
 """
@@ -23,6 +28,7 @@ VOID, FUNCTION_TYPE, MAIN, BOOL, TRUE, WORD, ONE = range(1, 8)
 FIRST_FREE = 8
 LABEL, BRANCH, BRANCH_IF, SWITCH, RETURN = 248, 249, 250, 251, 253
 LOOP_MERGE, SELECTION_MERGE, ADD, LOAD = 246, 247, 128, 61
+TYPE_FUNCTION, DECORATE, BLOCK = 33, 71, 2
 
 
 class Module:
@@ -173,6 +179,43 @@ def loads(module, count):
         module.put(LOAD, WORD, module.take(), ONE)
 
 
+def labels(module, count):
+    for _ in range(count):
+        module.put(LABEL, module.take())
+
+
+def functions(module, count):
+    before = VOID
+    for _ in range(count):
+        after = module.take()
+        module.put(TYPE_FUNCTION, after, before)
+        before = after
+
+
+def marks(module, count):
+    for _ in range(count):
+        module.put(DECORATE, module.take(), BLOCK)
+
+
+def merges(module, count):
+    for _ in range(count):
+        module.put(SELECTION_MERGE, module.take(), 0)
+
+
+def fans(module, count, pairs):
+    label = module.take()
+    for _ in range(count):
+        case, merge = module.take(), module.take()
+        module.put(LABEL, label)
+        module.put(SELECTION_MERGE, merge, 0)
+        module.put(SWITCH, ONE, merge, *[word for i in range(pairs) for word in (i, case)])
+        module.put(LABEL, case)
+        module.put(BRANCH, merge)
+        label = merge
+    module.put(LABEL, label)
+    module.put(RETURN)
+
+
 def main(words):
     kinds = {
         "chain": (chain, 2),
@@ -186,6 +229,11 @@ def main(words):
         "strays": (strays, 1),
         "returns": (returns, 1),
         "loads": (loads, 1),
+        "labels": (labels, 1),
+        "functions": (functions, 1),
+        "marks": (marks, 1),
+        "merges": (merges, 1),
+        "fans": (fans, 2),
     }
     if len(words) < 2 or words[0] not in kinds or len(words) != kinds[words[0]][1] + 2:
         sys.exit(__doc__)
