@@ -135,7 +135,9 @@ fn read_operands(
 {
     let mut operands = Operands::new(alloc);
     for place in 0..count {
-        operands.push(words.at(from + place))?;
+        if operands.push(words.at(from + place)).is_err() {
+            return Err(OutOfMemory);
+        }
     }
     Ok(operands)
 }

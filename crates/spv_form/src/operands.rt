@@ -1,4 +1,4 @@
-ghost use Rattle.std.specs.Prelude.{◌≡◌, ◌∷◌, ◌++◌, [], IfOk, OnOk, OnErr, IsSome, ◌↔◌, ◌<◌, ◌≤◌, length, take, slice_get};
+ghost use Rattle.std.specs.Prelude.{◌≡◌, ◌∷◌, ◌++◌, [], IfOk, IfErr, OnOk, OnErr, IsSome, ◌↔◌, ◌<◌, ◌≤◌, length, take, slice_get};
 ghost use Rattle.std.specs.Option.{option_copied};
 ghost use Rattle.spv_form.specs.Held.{held_words, IsHeld};
 
@@ -58,17 +58,24 @@ impl Operands {
         }
     }
 
-    /// Adds the word at the end; where memory runs out the words are as before.
-    pub fn push(&mut self, word: u32) -> Result<(), OutOfMemory>
+    /// Adds the word at the end; where memory runs out it comes back, and the words are as before.
+    pub fn push(&mut self, word: u32) -> Result<(), u32>
         ensures ok { OnOk result (self.new ≡ self.old ++ word ∷ []) }
         ensures err { OnErr result (self.new ≡ self.old) }
+        ensures word { IfErr result (λ back. back ≡ word) }
     {
         match self.held {
-            Held::Few { count, words } => {
-                self.held = one_more(self.alloc, count, words, word)?;
-                Ok(())
-            }
-            Held::Many(ref mut words) => words.push(word).map_err(|_| OutOfMemory),
+            Held::Few { count, words } => match one_more(self.alloc, count, words, word) {
+                Ok(held) => {
+                    self.held = held;
+                    Ok(())
+                }
+                Err(OutOfMemory) => Err(word),
+            },
+            Held::Many(ref mut words) => match words.push(word) {
+                Ok(()) => Ok(()),
+                Err(failed) => Err(failed.value),
+            },
         }
     }
 
