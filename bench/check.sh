@@ -27,8 +27,8 @@ compare 3 "3,000 loops" loops 3000
 compare 3 "200 nested selections" nested 200
 compare 3 "5 switches of 16,383 cases" switches 5 16383
 compare 1 "25,000 selections of 32 additions" chain 25000 32
-for kind in "chain 12500 32" "chain 25000 32" "chain 50000 32" "chain 12500 0" "chain 25000 0" "chain 50000 0" "loops 8250" "loops 16500" "loops 33000" "switches 1 16383" "switches 3 16383" "switches 6 16383" "nested 1023"; do
+for kind in "chain 12500 32" "chain 25000 32" "chain 50000 32" "chain 12500 0" "chain 25000 0" "chain 50000 0" "loops 8250" "loops 16500" "loops 33000" "switches 2 16383" "switches 4 16383" "switches 8 16383" "nested 255" "nested 511" "nested 1023" "constants 1048000" "constants 2096000" "constants 4192000"; do
   # shellcheck disable=SC2086
   python3 bench/modules.py $kind "$folder/in.spv" || exit 1
-  /usr/bin/time -f "$kind: check %e s, %U s of them its own, %M KB" "$program" check "$folder/in.spv" >/dev/null
+  /usr/bin/time -f "$kind: $(stat -c %s "$folder/in.spv") bytes, check %e s, %U s of them its own, %M KB" "$program" check "$folder/in.spv" >/dev/null
 done
