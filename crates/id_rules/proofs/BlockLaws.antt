@@ -1,6 +1,5 @@
 -- How many labels stand before each instruction.
-use Rattle.std.proofs.Common.{ℕ, ◌≡◌, ◌+◌, ◌<◌, ◌≤◌, inl, inr, refl, sym, ap, ◌∙◌, arith, List, [], ◌∷◌, ◌++◌, length, get_or, Bool, true, false, cond, eqb, Result, Ok, Err, OnOk}
-use Rattle.std.specs.Result.{is_err}
+use Rattle.std.proofs.Common.{ℕ, ◌≡◌, ◌+◌, ◌<◌, ◌≤◌, inl, inr, refl, sym, ap, ◌∙◌, arith, List, [], ◌∷◌, ◌++◌, length, get_or, Bool, true, false, cond, eqb}
 use Rattle.std.proofs.lemmas.Bool.{cases_lt}
 use Rattle.std.proofs.lemmas.Grind.{common_steps}
 use Rattle.std.proofs.lemmas.List.{length_push, get_or_push}
@@ -48,7 +47,3 @@ counting_more insts index before before' labels labels' x c h is pushed next = r
 
 pub counting_all : (insts : List Inst) (index : ℕ) (before : List ℕ) (labels : ℕ) → IsCounting insts index before labels → length insts ≤ index → index ≤ length insts → AreBlocks insts before
 counting_all insts index before labels c h k = record { length_is = omega (arith, c.length_is); are = λ j below. c.are j (omega (arith, c.length_is)) }
-
-pub is_pushed : {P T E : Type 0} (r : Result T E) → OnOk r P → is_err r ≡ false → P
-is_pushed (Ok u) p e = p
-is_pushed (Err x) p e = absurd cc

@@ -2,7 +2,7 @@ ghost use Rattle.std.specs.Prelude.{◌≡◌, ◌==◌, ◌+◌, ◌<◌, ◌^�
 ghost use Rattle.spv_ids.specs.Places as places;
 ghost use Rattle.id_rules.specs.Uses.{AreBlocks};
 
-use dx_base::{List, Numbers, OutOfMemory};
+use dx_base::OutOfMemory;
 use spv_form::{Inst, op};
 use std::alloc::Global;
 use std::marker::Model;
@@ -11,7 +11,7 @@ use std::marker::Model;
 #[derive(Drop)]
 pub struct Blocks<'a> {
     insts: &'a [Inst],
-    before: Numbers,
+    before: Vec<u32>,
 }
 
 impl<'a> Model for Blocks<'a> {
@@ -23,7 +23,7 @@ impl<'a> Model for Blocks<'a> {
 
     ghost view = { λ s. s.insts.now };
 
-    ghost invariant = { λ s. AreBlocks s.insts.now s.before };
+    ghost invariant = { λ s. AreBlocks s.insts.now s.before.items };
 }
 
 impl<'a> Blocks<'a> {
@@ -41,7 +41,7 @@ impl<'a> Blocks<'a> {
         requires { at < length self.now }
         ensures { result ≡ places.block_of self.now at }
     {
-        self.before.as_slice()[at]
+        self.before[at]
     }
 }
 
@@ -58,11 +58,14 @@ fn counted(labels: u32, inst: &Inst) -> u32
 }
 
 /// How many labels stand before each instruction.
-fn labels_before(alloc: Global, insts: &[Inst]) -> Result<Numbers, OutOfMemory>
+fn labels_before(alloc: Global, insts: &[Inst]) -> Result<Vec<u32>, OutOfMemory>
     requires { length insts.now < 2 ^ 32 }
-    ensures { IfOk result (AreBlocks insts.now) }
+    ensures { IfOk result (λ before. AreBlocks insts.now before.items) }
 {
-    let mut before = List::new(alloc);
+    let mut before = match Vec::with_capacity(alloc, insts.len()) {
+        Ok(before) => before,
+        Err(_) => return Err(OutOfMemory),
+    };
     let mut labels = 0u32;
     for inst in insts {
         if before.push(labels).is_err() {

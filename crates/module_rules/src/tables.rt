@@ -31,14 +31,15 @@ impl<'a> Tables<'a> {
         ensures insts { IfOk result (λ tables. tables.ids ≡ insts.now) }
         ensures exact { IfOk result answer.AreTables }
     {
+        let out_of_order = first_out_of_order(insts);
+        // Its own table is let go before the others are made.
+        let crowded = first_crowded(alloc, insts)?;
         let ids = Ids::of(alloc, insts)?;
         let blocks = Blocks::of(alloc, insts)?;
         let types = Declared::of(alloc, insts)?;
         let resources = Resources::of(alloc, insts)?;
         let read_only = ReadOnly::of(alloc, &ids, &resources)?;
         let landmarks = Landmarks::of(insts);
-        let out_of_order = first_out_of_order(insts);
-        let crowded = first_crowded(alloc, insts)?;
         Ok(Tables {
             ids,
             blocks,

@@ -32,8 +32,38 @@ const UNNAMED: Named = Named {
 pub struct Merges {
     /// How many wait for their merge label.
     pub waiting: u32,
-    /// What is said of each label.
+    /// What is said of each label that a merge instruction of the module names.
     pub named: BTreeMap<u32, Named>,
+}
+
+fn is_merge(inst: &Inst) -> bool
+    ensures { result ≡ merges.is_merge inst.now }
+{
+    matches!(inst.opcode, op::LOOP_MERGE | op::SELECTION_MERGE)
+}
+
+/// Puts the label that a merge instruction names.
+fn put_label(named: &mut BTreeMap<u32, Named>, inst: &Inst) -> Result<(), OutOfMemory>
+    ensures { OnOk result (merges.IsPut (tree.get nat_cmp named.old) (tree.get nat_cmp named.new) inst.now) }
+{
+    if !is_merge(inst) {
+        return Ok(());
+    }
+    match named.insert(operand(inst, 0), UNNAMED) {
+        Ok(_) => Ok(()),
+        Err(_) => Err(OutOfMemory),
+    }
+}
+
+/// The labels that merge instructions name, of which nothing is said so far.
+fn named_labels(alloc: Global, insts: &[Inst]) -> Result<BTreeMap<u32, Named>, OutOfMemory>
+    ensures { IfOk result (λ named. merges.AreNamed (tree.get nat_cmp named) insts.now) }
+{
+    let mut named = BTreeMap::new(alloc);
+    for inst in insts {
+        put_label(&mut named, inst)?;
+    }
+    Ok(named)
 }
 
 /// The label that a merge instruction names, or that stands there.
@@ -76,22 +106,21 @@ fn waiting_with(is_label: bool, named: Named, count: u32) -> u32
     }
 }
 
-/// Counts an instruction.
-fn pass(passed: &mut Merges, inst: &Inst) -> Result<(), OutOfMemory>
+/// Counts an instruction. A label that no merge instruction names has no entry, and changes nothing.
+fn pass(passed: &mut Merges, inst: &Inst)
     requires few_waiting { passed.old.waiting + 1 < 2 ^ 32 }
     requires few_named { merges.HasRoom (tree.get nat_cmp passed.old.named) inst.now }
-    ensures { OnOk result (merges.IsPassed passed.old.waiting passed.new.waiting (tree.get nat_cmp passed.old.named) (tree.get nat_cmp passed.new.named) inst.now) }
+    ensures { merges.IsPassed passed.old.waiting passed.new.waiting (tree.get nat_cmp passed.old.named) (tree.get nat_cmp passed.new.named) inst.now }
 {
     let Some(label) = label_of(inst) else {
-        return Ok(());
+        return;
     };
-    let before = passed.named.get(&label).copied().unwrap_or(UNNAMED);
+    let Some(named) = passed.named.get_mut(&label) else {
+        return;
+    };
     let is_label = inst.opcode == op::LABEL;
-    passed.waiting = waiting_with(is_label, before, passed.waiting);
-    match passed.named.insert(label, named_with(is_label, before)) {
-        Ok(_) => Ok(()),
-        Err(_) => Err(OutOfMemory),
-    }
+    passed.waiting = waiting_with(is_label, *named, passed.waiting);
+    *named = named_with(is_label, *named);
 }
 
 /// The place of the merge instruction with which more than 1,023 wait for their merge label (rule V14).
@@ -101,10 +130,10 @@ pub fn first_crowded(alloc: Global, insts: &[Inst]) -> Result<Option<usize>, Out
 {
     let mut passed = Merges {
         waiting: 0,
-        named: BTreeMap::new(alloc),
+        named: named_labels(alloc, insts)?,
     };
     for (at, inst) in insts.iter().enumerate() {
-        pass(&mut passed, inst)?;
+        pass(&mut passed, inst);
         if passed.waiting > MOST {
             return Ok(Some(at));
         }
