@@ -8,6 +8,8 @@ mod flow;
 #[cfg(test)]
 mod operands;
 #[cfg(test)]
+mod places;
+#[cfg(test)]
 mod rules;
 #[cfg(test)]
 mod scans;

@@ -1,27 +1,25 @@
-ghost use Rattle.std.specs.Prelude.{◌≡◌, ◌<◌, ◌^◌, length, IfOk, OnOk};
+ghost use Rattle.std.specs.Prelude.{◌≡◌, ◌<◌, ◌++◌, ◌^◌, count_by, is_some, length, IfOk, OnOk};
 ghost use Rattle.std.specs.Option.{option_copied};
-ghost use Rattle.std.specs.Ordering.{nat_cmp};
-ghost use Rattle.std.specs.BTreeMap as tree;
-ghost use Rattle.spv_ids.specs.Ids.{definer as definer_of, definition as definition_of, IsFirstKept};
+ghost use Rattle.spv_ids.specs.Ids.{definer as definer_of, definition as definition_of, defined_at, AreDefinitions};
+ghost use Rattle.spv_ids.specs.Roles.{result_of as result_id};
 
 use crate::roles::result_of;
 use dx_base::OutOfMemory;
+use key_places::FirstPlaces;
 use spv_form::Inst;
 use std::alloc::Global;
-use std::collections::BTreeMap;
 use std::marker::Model;
 
 /// The instructions of a module, with the place at which each id is first defined. Contracts see the instructions.
 #[derive(Drop)]
 pub struct Ids<'a> {
     insts: &'a [Inst],
-    first: BTreeMap<u32, u32>,
+    first: FirstPlaces,
 }
 
 impl<'a> Model for Ids<'a> {
     ghost use Rattle.std.specs.Prelude.{List, ℕ, ◌≡◌};
-    ghost use Rattle.std.specs.Ordering.{nat_cmp};
-    ghost use Rattle.std.specs.BTreeMap as tree;
+    ghost use Rattle.std.specs.FinMap as map;
     ghost use Rattle.spv_form.specs.declared.module.Inst.{Inst as Instruction};
     ghost use Rattle.spv_ids.specs.Ids.{definer};
 
@@ -29,7 +27,7 @@ impl<'a> Model for Ids<'a> {
 
     ghost view = { λ s. s.insts.now };
 
-    ghost invariant = { λ s. (id : ℕ) → tree.get nat_cmp s.first id ≡ definer s.insts.now id };
+    ghost invariant = { λ s. (id : ℕ) → map.get s.first id ≡ definer s.insts.now id };
 }
 
 impl<'a> Ids<'a> {
@@ -38,10 +36,7 @@ impl<'a> Ids<'a> {
         requires { length insts.now < 2 ^ 32 }
         ensures { IfOk result (λ ids. ids ≡ insts.now) }
     {
-        let mut first = BTreeMap::new(alloc);
-        for (at, inst) in insts.iter().enumerate() {
-            keep_first(&mut first, inst, at as u32)?;
-        }
+        let first = FirstPlaces::of(definitions(alloc, insts)?);
         Ok(Ids { insts, first })
     }
 
@@ -56,8 +51,8 @@ impl<'a> Ids<'a> {
     pub fn definer(&self, id: u32) -> Option<usize>
         ensures { result ≡ definer_of self.now id }
     {
-        match self.first.get(&id) {
-            Some(at) => Some(*at as usize),
+        match self.first.get(id) {
+            Some(at) => Some(at as usize),
             None => None,
         }
     }
@@ -74,18 +69,40 @@ impl<'a> Ids<'a> {
     }
 }
 
-/// Keeps the place of an instruction by the id that it defines, unless there is one.
-fn keep_first(first: &mut BTreeMap<u32, u32>, inst: &Inst, at: u32) -> Result<(), OutOfMemory>
-    ensures { OnOk result (IsFirstKept (tree.get nat_cmp first.old) (tree.get nat_cmp first.new) inst.now at) }
+/// How many instructions define an id.
+fn definition_count(insts: &[Inst]) -> usize
+    ensures { result ≡ count_by (λ inst. is_some (result_id inst)) insts.now }
+{
+    insts
+        .iter()
+        .filter(|inst| result_of(inst).is_some())
+        .count()
+}
+
+/// Puts the id that an instruction defines, with the instruction's place.
+fn push_definition(pairs: &mut Vec<(u32, u32)>, inst: &Inst, at: u32) -> Result<(), OutOfMemory>
+    ensures { OnOk result (pairs.new.items ≡ pairs.old.items ++ defined_at at inst.now) }
 {
     let Some(id) = result_of(inst) else {
         return Ok(());
     };
-    if first.contains_key(&id) {
-        return Ok(());
-    }
-    match first.insert(id, at) {
-        Ok(_) => Ok(()),
+    match pairs.push((id, at)) {
+        Ok(()) => Ok(()),
         Err(_) => Err(OutOfMemory),
     }
+}
+
+/// The ids that the instructions define, each with the place of its instruction.
+fn definitions(alloc: Global, insts: &[Inst]) -> Result<Vec<(u32, u32)>, OutOfMemory>
+    requires { length insts.now < 2 ^ 32 }
+    ensures { IfOk result (λ pairs. AreDefinitions insts.now pairs.items) }
+{
+    let mut pairs = match Vec::with_capacity(alloc, definition_count(insts)) {
+        Ok(pairs) => pairs,
+        Err(_) => return Err(OutOfMemory),
+    };
+    for (at, inst) in insts.iter().enumerate() {
+        push_definition(&mut pairs, inst, at as u32)?;
+    }
+    Ok(pairs)
 }
