@@ -89,6 +89,13 @@ impl Labels {
         Ok(())
     }
 
+    /// How many blocks there are.
+    pub(crate) fn count(&self) -> usize
+        ensures { result ≡ self.now.count }
+    {
+        self.count as usize
+    }
+
     /// The number of the first block with this label; 0 where there is none.
     pub(crate) fn number(&self, label: u32) -> u32
         ensures { result ≡ number_in self.now label }

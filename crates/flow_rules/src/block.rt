@@ -84,9 +84,6 @@ impl Model for BasicBlock {
     ghost view = { λ b. record { word = b.word; strays = strays_of b.end; merge = merge_of b.end; terminator = terminator_of (ending_of b.end); end_word = b.end_word; targets = targets_of (ending_of b.end) } };
 }
 
-/// The blocks of a function, in word order.
-pub type BlockList = List<BasicBlock>;
-
 impl BlockEnd {
     fn new(
         alloc: Global,
