@@ -1,8 +1,7 @@
 -- The two passes over the instructions of a module, one instruction at a time: over the labels of the blocks, and over the blocks.
-use Rattle.std.specs.Prelude.{ℕ, ◌≡◌, ◌+◌, ◌==◌, List, [], ◌∷◌, map, Option, Some, None, if◌then◌else◌}
-use Rattle.std.specs.Option.{option_or, option_map, is_some, unwrap_or}
-use Rattle.std.specs.Ordering.{nat_cmp}
-use Rattle.std.specs.BTreeMap.{get}
+use Rattle.std.specs.Prelude.{ℕ, ◌==◌, List, [], ◌∷◌, ◌++◌, length, map, Option, Some, None, if◌then◌else◌}
+use Rattle.std.specs.Option.{option_map, is_some, unwrap_or}
+use Rattle.std.specs.FinMap.{get}
 use Rattle.spv_form.specs.declared.module.Inst.{Inst}
 use Rattle.flow_rules.specs.Blocks.{BasicBlock}
 use Rattle.flow_rules.specs.declared.block.Merge.{Merge}
@@ -15,21 +14,12 @@ use Rattle.flow_blocks.specs.Numbered.{numbered_merge}
 -- ---- labels
 -- the number that a table has for a label; 0 where it has none
 abbrev pub number_in : Labels → ℕ → ℕ
-number_in labels id = unwrap_or (get nat_cmp labels.first id) 0
+number_in labels id = unwrap_or (get labels.first id) 0
 
--- the number is kept for the label, unless there was one
-pub record IsFirstKept (old new : ℕ → Option ℕ) (label at : ℕ) : Type 0 where
-  pub kept : (id : ℕ) → new id ≡ option_or (old id) (if label == id then Some at else None)
-
--- the table has one block more
-pub record IsNext (old new : Labels) (label : ℕ) : Type 0 where
-  pub kept : IsFirstKept (get nat_cmp old.first) (get nat_cmp new.first) label old.count
-  pub counted : new.count ≡ old.count + 1
-
--- the table has one block more where there is a label
-abbrev pub IsWith : Labels → Labels → Option ℕ → Type 0
-IsWith old new None = new ≡ old
-IsWith old new (Some label) = IsNext old new label
+-- the labels of blocks with their numbers, and one block more where there is a label
+abbrev pub with_block : List (ℕ × ℕ) → Option ℕ → List (ℕ × ℕ)
+with_block blocks None = blocks
+with_block blocks (Some label) = blocks ++ (label, length blocks) ∷ []
 
 -- the label of the block that has no terminator yet, behind an instruction
 abbrev pub label_after : Option ℕ → Inst → Option ℕ

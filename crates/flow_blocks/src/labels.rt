@@ -1,38 +1,34 @@
 //! The numbers of blocks by the ids of their labels.
 
-ghost use Rattle.std.specs.Prelude.{◌≡◌, ◌<◌, ◌+◌, ◌^◌, ℕ, IfOk, OnOk, length, map};
-ghost use Rattle.std.specs.Ordering.{nat_cmp};
-ghost use Rattle.std.specs.Option.{option_map};
-ghost use Rattle.std.specs.BTreeMap as tree;
+ghost use Rattle.std.specs.Prelude.{◌≡◌, ◌<◌, ◌^◌, ℕ, IfOk, OnOk, length};
 ghost use Rattle.flow_blocks.specs.Blocks.{labeled_blocks};
 ghost use Rattle.flow_blocks.specs.Numbered.{number_of, numbered_kind, numbered_merge};
-ghost use Rattle.flow_blocks.specs.Passes.{number_in, IsFirstKept, IsWith, label_after, label_ended};
+ghost use Rattle.flow_blocks.specs.Passes.{number_in, with_block, label_after, label_ended};
 
 use crate::inst::{operand, terminator_of};
 use dx_base::OutOfMemory;
 use flow_rules::{Merge, MergeKind};
+use key_places::FirstPlaces;
 use spv_form::{Inst, op};
 use std::alloc::Global;
-use std::collections::BTreeMap;
 
 /// The number of the first block of each label, and how many blocks there are.
 #[derive(Drop)]
 pub(crate) struct Labels {
-    first: BTreeMap<u32, u32>,
-    count: u32,
+    first: FirstPlaces,
+    count: usize,
 }
 
-/// Keeps a block's number by its label, unless there is one.
-fn keep_first(first: &mut BTreeMap<u32, u32>, label: u32, at: u32) -> Result<(), OutOfMemory>
-    ensures { OnOk result (IsFirstKept (tree.get nat_cmp first.old) (tree.get nat_cmp first.new) label at) }
+/// Adds the label and the number of the block that is ended, where one is.
+fn push_block(blocks: &mut Vec<(u32, u32)>, label: Option<u32>) -> Result<(), OutOfMemory>
+    requires { length blocks.old.items < 2 ^ 32 }
+    ensures { OnOk result (blocks.new.items ≡ with_block blocks.old.items label) }
 {
-    if first.contains_key(&label) {
+    let Some(label) = label else {
         return Ok(());
-    }
-    match first.insert(label, at) {
-        Ok(_) => Ok(()),
-        Err(_) => Err(OutOfMemory),
-    }
+    };
+    let number = blocks.len() as u32;
+    blocks.push((label, number)).map_err(|_| OutOfMemory)
 }
 
 /// The label of the block that has no terminator yet, behind one instruction more.
@@ -62,39 +58,36 @@ impl Labels {
     /// The labels of the blocks that these instructions make.
     pub(crate) fn of(alloc: Global, insts: &[Inst]) -> Result<Labels, OutOfMemory>
         requires { length insts.now < 2 ^ 32 }
-        ensures { IfOk result (λ labels. (id : ℕ) → number_in labels id ≡ number_of (labeled_blocks insts.now) id) }
+        ensures numbers { IfOk result (λ labels. (id : ℕ) → number_in labels id ≡ number_of (labeled_blocks insts.now) id) }
+        ensures count { IfOk result (λ labels. labels.count ≡ length (labeled_blocks insts.now)) }
     {
-        let mut labels = Labels {
-            first: BTreeMap::new(alloc),
-            count: 0,
-        };
+        let terminators = insts.iter().filter(|inst| terminator_of(inst).is_some());
+        let mut blocks = Vec::with_capacity(alloc, terminators.count()).map_err(|_| OutOfMemory)?;
         let mut current = None;
         for inst in insts {
-            labels.add(ended_label(current, inst))?;
+            push_block(&mut blocks, ended_label(current, inst))?;
             current = label_behind(current, inst);
         }
-        Ok(labels)
+        let count = blocks.len();
+        Ok(Labels {
+            first: FirstPlaces::of(blocks),
+            count,
+        })
     }
 
-    /// Adds the block with this label, where there is one.
-    fn add(&mut self, label: Option<u32>) -> Result<(), OutOfMemory>
-        requires { self.old.count + 1 < 2 ^ 32 }
-        ensures { OnOk result (IsWith self.old self.new label) }
+    /// How many blocks there are.
+    pub(crate) fn count(&self) -> usize
+        ensures { result ≡ self.now.count }
     {
-        let Some(label) = label else {
-            return Ok(());
-        };
-        keep_first(&mut self.first, label, self.count)?;
-        self.count += 1;
-        Ok(())
+        self.count
     }
 
     /// The number of the first block with this label; 0 where there is none.
     pub(crate) fn number(&self, label: u32) -> u32
         ensures { result ≡ number_in self.now label }
     {
-        match self.first.get(&label) {
-            Some(number) => *number,
+        match self.first.get(label) {
+            Some(number) => number,
             None => 0,
         }
     }

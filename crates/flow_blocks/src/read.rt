@@ -10,7 +10,7 @@ ghost use Rattle.spv_form.specs.Words.{start_of};
 use crate::inst::{ending_of, merge_of};
 use crate::labels::Labels;
 use dx_base::{List, OutOfMemory};
-use flow_rules::{BasicBlock, BlockList, Ending, Merge, MergeList};
+use flow_rules::{BasicBlock, Ending, Merge, MergeList};
 use spv_form::{Inst, InstList, op};
 use std::alloc::Global;
 
@@ -76,12 +76,12 @@ fn step(
     alloc: Global,
     labels: &Labels,
     current: Option<OpenBlock>,
-    blocks: &mut BlockList,
+    blocks: &mut Vec<BasicBlock>,
     word: u32,
     inst: &Inst,
 ) -> Result<Option<OpenBlock>, OutOfMemory>
     ensures next { IfOk result (λ o. o ≡ block_after (number_in labels.now) current word inst.now) }
-    ensures blocks { OnOk result (blocks.new ≡ blocks.old ++ block_ended_at (number_in labels.now) current word inst.now) }
+    ensures blocks { OnOk result (blocks.new.items ≡ blocks.old.items ++ block_ended_at (number_in labels.now) current word inst.now) }
 {
     if inst.opcode == op::LABEL {
         return Ok(Some(OpenBlock::new(alloc, word)));
@@ -100,11 +100,15 @@ fn step(
     }
 }
 
-fn numbered_blocks(alloc: Global, labels: &Labels, insts: &[Inst]) -> Result<BlockList, OutOfMemory>
+fn numbered_blocks(
+    alloc: Global,
+    labels: &Labels,
+    insts: &[Inst],
+) -> Result<Vec<BasicBlock>, OutOfMemory>
     requires { start_of insts.now (length insts.now) < 2 ^ 32 }
-    ensures { IfOk result (λ v. v ≡ each_numbered (number_in labels.now) (labeled_blocks insts.now)) }
+    ensures { IfOk result (λ v. v.items ≡ each_numbered (number_in labels.now) (labeled_blocks insts.now)) }
 {
-    let mut blocks = List::new(alloc);
+    let mut blocks = Vec::with_capacity(alloc, labels.count()).map_err(|_| OutOfMemory)?;
     let mut current = None;
     let mut word = 5u32;
     for at in 0..insts.len() {
@@ -116,12 +120,12 @@ fn numbered_blocks(alloc: Global, labels: &Labels, insts: &[Inst]) -> Result<Blo
 }
 
 /// The blocks of a module's instructions, in word order. They name each other by their numbers.
-pub fn blocks_of(alloc: Global, insts: &InstList) -> Result<BlockList, OutOfMemory>
+pub fn blocks_of(alloc: Global, insts: &InstList) -> Result<Vec<BasicBlock>, OutOfMemory>
     requires { start_of insts.now (length insts.now) < 2 ^ 32 }
-    ensures exact { IfOk result (λ blocks. blocks ≡ blocks_named insts.now) }
-    ensures small { IfOk result (λ blocks. length blocks < 2 ^ 32) }
-    ensures numbered { IfOk result (λ blocks. IsNumbered blocks) }
-    ensures order { IfOk result (λ blocks. AreInOrder blocks) }
+    ensures exact { IfOk result (λ blocks. blocks.items ≡ blocks_named insts.now) }
+    ensures small { IfOk result (λ blocks. length blocks.items < 2 ^ 32) }
+    ensures numbered { IfOk result (λ blocks. IsNumbered blocks.items) }
+    ensures order { IfOk result (λ blocks. AreInOrder blocks.items) }
 {
     let insts = insts.as_slice();
     let labels = Labels::of(alloc, insts)?;

@@ -1,9 +1,8 @@
 -- How the end and the merge instructions of a block are kept.
 use Rattle.std.specs.Prelude.{ℕ, List, [], Option, Some, None}
 use Rattle.flow_rules.specs.declared.block.Merge.{Merge}
-use Rattle.flow_rules.specs.declared.block.Merges.{Merges}
-use Rattle.flow_rules.specs.declared.block.Merges.TheVariants.{None as NoMerge, Selection as SelectionAt, Loop as LoopAt, Strays}
-use Rattle.flow_rules.specs.declared.block.MergeKind.TheVariants.{Selection, Loop}
+use Rattle.flow_rules.specs.declared.block.BlockEnd.{BlockEnd}
+use Rattle.flow_rules.specs.declared.block.BlockEnd.TheVariants.{Plain, Header, Strays}
 use Rattle.flow_rules.specs.declared.block.Ending.{Ending}
 use Rattle.flow_rules.specs.declared.block.Ending.TheVariants.{Return as Returns, Branch as Branches, BranchConditional as Forks, Switch as Switches}
 use Rattle.flow_rules.specs.declared.block.Terminator.{Terminator}
@@ -23,15 +22,18 @@ targets_of (Forks targets) = targets
 targets_of (Switches targets) = targets.value
 
 -- the merge instructions that do not stand directly before the terminator
-abbrev pub strays_of : Merges → List Merge
-strays_of NoMerge = []
-strays_of (SelectionAt word merge_block) = []
-strays_of (LoopAt word merge_block continue_target) = []
-strays_of (Strays apart) = apart.value.strays
+abbrev pub strays_of : BlockEnd → List Merge
+strays_of (Plain ending) = []
+strays_of (Header end) = []
+strays_of (Strays end) = end.value.strays
 
 -- the merge instruction that stands directly before the terminator
-abbrev pub merge_of : Merges → Option Merge
-merge_of NoMerge = None
-merge_of (SelectionAt word merge_block) = Some (record { word = word; kind = Selection; merge_block = merge_block })
-merge_of (LoopAt word merge_block continue_target) = Some (record { word = word; kind = Loop continue_target; merge_block = merge_block })
-merge_of (Strays apart) = apart.value.merge
+abbrev pub merge_of : BlockEnd → Option Merge
+merge_of (Plain ending) = None
+merge_of (Header end) = Some end.value.merge
+merge_of (Strays end) = end.value.merge
+
+abbrev pub ending_of : BlockEnd → Ending
+ending_of (Plain ending) = ending
+ending_of (Header end) = end.value.ending
+ending_of (Strays end) = end.value.ending

@@ -1,5 +1,5 @@
-ghost use Rattle.std.specs.Prelude.{◌≡◌, [], IfOk};
-ghost use Rattle.flow_rules.specs.Kept.{strays_of, merge_of, terminator_of, targets_of};
+ghost use Rattle.std.specs.Prelude.{◌≡◌, IfOk};
+ghost use Rattle.flow_rules.specs.Kept.{strays_of, merge_of, ending_of, terminator_of, targets_of};
 
 use dx_base::{List, Numbers, OutOfMemory};
 use std::alloc::Global;
@@ -42,27 +42,27 @@ pub enum Ending {
     Switch(Box<Numbers>),
 }
 
-/// Merge instructions that do not stand directly before the terminator, and the one that does.
+/// The end of a header, and its merge instruction.
 #[derive(Debug, Drop)]
-struct Apart {
-    strays: MergeList,
-    merge: Option<Merge>,
+struct HeaderEnd {
+    merge: Merge,
+    ending: Ending,
 }
 
-/// The merge instructions of a block. Nearly all blocks have one directly before the terminator or none.
+/// The end of a block with merge instructions that do not stand directly before the terminator, and the one that does.
 #[derive(Debug, Drop)]
-enum Merges {
-    None,
-    Selection {
-        word: u32,
-        merge_block: u32,
-    },
-    Loop {
-        word: u32,
-        merge_block: u32,
-        continue_target: u32,
-    },
-    Strays(Box<Apart>),
+struct StrayEnd {
+    strays: MergeList,
+    merge: Option<Merge>,
+    ending: Ending,
+}
+
+/// The end of a block and its merge instructions. Most blocks have none, and take no memory for them.
+#[derive(Debug, Drop)]
+enum BlockEnd {
+    Plain(Ending),
+    Header(Box<HeaderEnd>),
+    Strays(Box<StrayEnd>),
 }
 
 /// A basic block. The blocks of a function are numbered from 0 in word order.
@@ -70,55 +70,58 @@ enum Merges {
 pub struct BasicBlock {
     word: u32,
     end_word: u32,
-    merges: Merges,
-    ending: Ending,
+    end: BlockEnd,
 }
 
-const _: () = prove!(size_of::<BasicBlock>() == 40);
+const _: () = prove!(size_of::<BasicBlock>() == 32);
 
 impl Model for BasicBlock {
     ghost use Rattle.flow_rules.specs.Blocks.{BasicBlock as Block};
-    ghost use Rattle.flow_rules.specs.Kept.{strays_of, merge_of, terminator_of, targets_of};
+    ghost use Rattle.flow_rules.specs.Kept.{strays_of, merge_of, ending_of, terminator_of, targets_of};
 
     ghost Value = { Block };
 
-    ghost view = { λ b. record { word = b.word; strays = strays_of b.merges; merge = merge_of b.merges; terminator = terminator_of b.ending; end_word = b.end_word; targets = targets_of b.ending } };
+    ghost view = { λ b. record { word = b.word; strays = strays_of b.end; merge = merge_of b.end; terminator = terminator_of (ending_of b.end); end_word = b.end_word; targets = targets_of (ending_of b.end) } };
 }
 
-/// The blocks of a function, in word order.
-pub type BlockList = List<BasicBlock>;
-
-impl Merges {
-    fn of(alloc: Global, strays: MergeList, merge: Option<Merge>) -> Result<Merges, OutOfMemory>
-        ensures strays { IfOk result (λ merges. strays_of merges ≡ strays) }
-        ensures merge { IfOk result (λ merges. merge_of merges ≡ merge) }
+impl BlockEnd {
+    fn new(
+        alloc: Global,
+        strays: MergeList,
+        merge: Option<Merge>,
+        ending: Ending,
+    ) -> Result<BlockEnd, OutOfMemory>
+        ensures strays { IfOk result (λ end. strays_of end ≡ strays) }
+        ensures merge { IfOk result (λ end. merge_of end ≡ merge) }
+        ensures ending { IfOk result (λ end. ending_of end ≡ ending) }
     {
         if strays.len() > 0 {
-            return match Box::new(alloc, Apart { strays, merge }) {
-                Ok(apart) => Ok(Merges::Strays(apart)),
+            let end = StrayEnd {
+                strays,
+                merge,
+                ending,
+            };
+            return match Box::new(alloc, end) {
+                Ok(end) => Ok(BlockEnd::Strays(end)),
                 Err(_) => Err(OutOfMemory),
             };
         }
-        Ok(Merges::before_terminator(merge))
+        let Some(merge) = merge else {
+            return Ok(BlockEnd::Plain(ending));
+        };
+        match Box::new(alloc, HeaderEnd { merge, ending }) {
+            Ok(end) => Ok(BlockEnd::Header(end)),
+            Err(_) => Err(OutOfMemory),
+        }
     }
 
-    fn before_terminator(merge: Option<Merge>) -> Merges
-        ensures strays { strays_of result ≡ [] }
-        ensures merge { merge_of result ≡ merge }
+    fn ending(&self) -> &Ending
+        ensures { result.now ≡ ending_of self.now }
     {
-        let Some(merge) = merge else {
-            return Merges::None;
-        };
-        match merge.kind {
-            MergeKind::Selection => Merges::Selection {
-                word: merge.word,
-                merge_block: merge.merge_block,
-            },
-            MergeKind::Loop { continue_target } => Merges::Loop {
-                word: merge.word,
-                merge_block: merge.merge_block,
-                continue_target,
-            },
+        match self {
+            BlockEnd::Plain(ending) => ending,
+            BlockEnd::Header(end) => &end.ending,
+            BlockEnd::Strays(end) => &end.ending,
         }
     }
 }
@@ -135,12 +138,11 @@ impl BasicBlock {
     ) -> Result<BasicBlock, OutOfMemory>
         ensures { IfOk result (λ block. block ≡ record { word = word; strays = strays; merge = merge; terminator = terminator_of ending; end_word = end_word; targets = targets_of ending }) }
     {
-        let merges = Merges::of(alloc, strays, merge)?;
+        let end = BlockEnd::new(alloc, strays, merge, ending)?;
         Ok(BasicBlock {
             word,
             end_word,
-            merges,
-            ending,
+            end,
         })
     }
 
@@ -162,8 +164,8 @@ impl BasicBlock {
     pub fn strays(&self) -> &[Merge]
         ensures { result.now ≡ self.now.strays }
     {
-        match &self.merges {
-            Merges::Strays(apart) => apart.strays.as_slice(),
+        match &self.end {
+            BlockEnd::Strays(end) => end.strays.as_slice(),
             _ => &[],
         }
     }
@@ -172,32 +174,17 @@ impl BasicBlock {
     pub fn merge(&self) -> Option<Merge>
         ensures { result ≡ self.now.merge }
     {
-        match &self.merges {
-            Merges::None => None,
-            Merges::Selection { word, merge_block } => Some(Merge {
-                word: *word,
-                kind: MergeKind::Selection,
-                merge_block: *merge_block,
-            }),
-            Merges::Loop {
-                word,
-                merge_block,
-                continue_target,
-            } => Some(Merge {
-                word: *word,
-                kind: MergeKind::Loop {
-                    continue_target: *continue_target,
-                },
-                merge_block: *merge_block,
-            }),
-            Merges::Strays(apart) => apart.merge,
+        match &self.end {
+            BlockEnd::Plain(_) => None,
+            BlockEnd::Header(end) => Some(end.merge),
+            BlockEnd::Strays(end) => end.merge,
         }
     }
 
     pub fn terminator(&self) -> Terminator
         ensures { result ≡ self.now.terminator }
     {
-        match &self.ending {
+        match self.end.ending() {
             Ending::Return => Terminator::Return,
             Ending::Branch(_) => Terminator::Branch,
             Ending::BranchConditional(_) => Terminator::BranchConditional,
@@ -209,7 +196,7 @@ impl BasicBlock {
     pub fn targets(&self) -> &[u32]
         ensures { result.now ≡ self.now.targets }
     {
-        match &self.ending {
+        match self.end.ending() {
             Ending::Return => &[],
             Ending::Branch(target) => target,
             Ending::BranchConditional(targets) => targets,

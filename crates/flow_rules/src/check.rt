@@ -8,7 +8,7 @@ ghost use Rattle.flow_rules.specs.Rules.{Suits, ClosesLoop, MayLeave, BreaksLabe
 ghost use Rattle.flow_rules.specs.Lists.{AreTables};
 ghost use Rattle.flow_rules.specs.Answers.{FlowAnswer, Tells, RuleAnswer, SoleAnswer, IsTidy, SomeEscapes, BlockAnswer, StrayAnswer, FaultAnswer, MergeAnswer, NoneBelow, lesser_of, BreaksSome, Closing, IsDoubled, EndsAt, LoopExit, SwitchExit};
 
-use crate::block::{BasicBlock, BlockList, Merge, MergeKind, Terminator};
+use crate::block::{BasicBlock, Merge, MergeKind, Terminator};
 use crate::lists::{body_of, loop_of, switch_of};
 use crate::tables::Tables;
 use flow_scans::Span;
@@ -578,13 +578,12 @@ fn flow_fault(tables: &Tables, blocks: &[BasicBlock]) -> Option<Fault>
 ///
 /// The blocks name each other by their numbers, and their words rise. The time is n log n in the blocks, their targets and merge instructions, and the memory is linear.
 /// The answer is the broken rule of the least word, and there of the least number.
-pub fn check_flow(alloc: Global, blocks: &BlockList) -> Result<(), CheckFault>
+pub fn check_flow(alloc: Global, blocks: &[BasicBlock]) -> Result<(), CheckFault>
     requires small { length blocks.now < 2 ^ 32 }
     requires numbered { IsNumbered blocks.now }
     requires order { AreInOrder blocks.now }
     ensures { FlowAnswer result blocks.now }
 {
-    let blocks = blocks.as_slice();
     let tables = match Tables::new(alloc, blocks) {
         Ok(tables) => tables,
         Err(_) => return Err(CheckFault::OutOfMemory),

@@ -6,5 +6,5 @@ mod check;
 mod lists;
 mod tables;
 
-pub use block::{BasicBlock, BlockList, Ending, Merge, MergeKind, MergeList, Terminator};
+pub use block::{BasicBlock, Ending, Merge, MergeKind, MergeList, Terminator};
 pub use check::check_flow;

@@ -179,7 +179,7 @@ fn push_between(found: &mut Vec<u32>, target: u32, low: u32, high: u32) -> Resul
 fn between(alloc: Global, targets: &[u32], low: u32, high: u32) -> Result<Vec<u32>, OutOfMemory>
     ensures { IfOk result (λ v. Between targets.now low high v.items) }
 {
-    let mut found = Vec::new(alloc);
+    let mut found = Vec::with_capacity(alloc, targets.len()).map_err(|_| OutOfMemory)?;
     for target in targets {
         push_between(&mut found, *target, low, high)?;
     }
@@ -341,6 +341,12 @@ fn push_family(
     Ok(())
 }
 
+/// How many spans a block has at most in one family: one for each target, and three more where it is a header.
+fn most_spans(block: &BasicBlock) -> usize {
+    let rows = if block.merge().is_some() { 3 } else { 0 };
+    block.targets().len().saturating_add(rows)
+}
+
 /// All spans of a family.
 pub(crate) fn spans_of(
     alloc: Global,
@@ -350,7 +356,10 @@ pub(crate) fn spans_of(
     requires { length blocks.now < 2 ^ 32 }
     ensures { IfOk result (λ v. Lists (SpanOf (OfFamily blocks.now family)) v.items) }
 {
-    let mut spans = Vec::new(alloc);
+    let most = blocks.iter().fold(0usize, |most, block| {
+        most.saturating_add(most_spans(block))
+    });
+    let mut spans = Vec::with_capacity(alloc, most).map_err(|_| OutOfMemory)?;
     for p in 0..blocks.len() {
         push_family(alloc, family, &mut spans, p as u32, &blocks[p])?;
     }

@@ -3,7 +3,7 @@ ghost use Rattle.module_tests.specs.Regular.{AreRegular, IsRegular, AreNamed, Is
 ghost use Rattle.flow_rules.specs.Rules.{IsNumbered, AreInOrder};
 
 use dx_base::{List, Numbers};
-use flow_rules::{BasicBlock, BlockList, Ending, Merge, MergeKind, check_flow};
+use flow_rules::{BasicBlock, Ending, Merge, MergeKind, check_flow};
 use spv_form::{CheckFault, WordRule};
 use std::alloc::Global;
 use std::process::Abort;
@@ -158,18 +158,19 @@ fn block_of(
 fn fault_of(rt: &impl Abort, alloc: Global, rows: &[Row]) -> Result<Option<(u8, u32)>, Fail> {
     assert!(rt; rows.len() < 1000);
     let count = rows.len() as u32;
-    let mut blocks = List::new(alloc);
+    let mut blocks = Vec::with_capacity(alloc, rows.len())?;
     for p in 0..rows.len() {
         let block = block_of(rt, alloc, rows[p], p as u32, count)?;
-        match blocks.push(block) {
-            Ok(()) => {}
-            Err(_) => panic!(rt; "no memory"),
-        }
+        blocks.push(block)?;
     }
     fault_in(rt, alloc, &blocks)
 }
 
-fn fault_in(rt: &impl Abort, alloc: Global, blocks: &BlockList) -> Result<Option<(u8, u32)>, Fail>
+fn fault_in(
+    rt: &impl Abort,
+    alloc: Global,
+    blocks: &[BasicBlock],
+) -> Result<Option<(u8, u32)>, Fail>
     requires { AreRegular blocks.now (length blocks.now) }
 {
     assert!(rt; blocks.len() < 1000);

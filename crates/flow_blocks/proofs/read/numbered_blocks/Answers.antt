@@ -1,4 +1,5 @@
 use Rattle.std.proofs.Common.{ℕ, ◌++◌, ◌∙◌, refl, sym, ap, arith, Option}
+use Rattle.std.proofs.lemmas.Grind.{common_steps}
 use Rattle.std.specs.Option.{option_map}
 use Rattle.spv_form.specs.Words.{size_of, start_of}
 use Rattle.flow_blocks.specs.declared.read.OpenBlock.{OpenBlock}
@@ -11,7 +12,7 @@ use Rattle.flow_blocks.proofs.read.numbered_blocks.Goals as goal
 
 pub loop-at-init : goal.loop-at-init
 unfolding open_from blocks_from
-loop-at-init c = (refl, refl, c.new-blocks.ensures)
+loop-at-init c = (refl, refl, grind (arith, common_steps))
 
 pub overflow_add-word-in-loop-at : goal.overflow_add-word-in-loop-at
 overflow_add-word-in-loop-at c =
@@ -34,9 +35,9 @@ loop-at-preserved c =
       step.next ∙ ap (λ (o : Option OpenBlock). block_after number o c.loop-at.word x) c.loop-at.invariant.1
           ∙ ap (λ (w : ℕ). block_after number (option_map (open_numbered number) before) w x) c.loop-at.invariant.0 ∙ open_passed number before word x
           ∙ sym (ap (λ (o : Option Open). option_map (open_numbered number) o) (open_more insts at x inside is)),
-      blocks_passed number c.loop-at.blocks c.step.new.blocks (blocks_to insts at) before word x c.loop-at.invariant.2
-          (step.blocks ∙ ap (λ (o : Option OpenBlock). c.loop-at.blocks ++ block_ended_at number o c.loop-at.word x) c.loop-at.invariant.1
-          ∙ ap (λ (w : ℕ). c.loop-at.blocks ++ block_ended_at number (option_map (open_numbered number) before) w x) c.loop-at.invariant.0)
+      blocks_passed number c.loop-at.blocks.items c.step.new.blocks.items (blocks_to insts at) before word x c.loop-at.invariant.2
+          (step.blocks ∙ ap (λ (o : Option OpenBlock). c.loop-at.blocks.items ++ block_ended_at number o c.loop-at.word x) c.loop-at.invariant.1
+          ∙ ap (λ (w : ℕ). c.loop-at.blocks.items ++ block_ended_at number (option_map (open_numbered number) before) w x) c.loop-at.invariant.0)
           ∙ sym (ap (each_numbered number) (blocks_more insts at x inside is)),
     )
 

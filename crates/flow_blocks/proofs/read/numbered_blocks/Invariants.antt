@@ -9,4 +9,4 @@ use Rattle.flow_blocks.proofs.read.numbered_blocks.Given as goal
 abbrev pub invariant-loop-at : goal.invariant-loop-at
 invariant-loop-at l =
     (l.word ≡ start_of l.insts l.at) × (l.current ≡ option_map (open_numbered (number_in l.labels)) (open_to l.insts l.at))
-    × (l.blocks ≡ each_numbered (number_in l.labels) (blocks_to l.insts l.at))
+    × (l.blocks.items ≡ each_numbered (number_in l.labels) (blocks_to l.insts l.at))

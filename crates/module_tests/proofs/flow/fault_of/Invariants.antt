@@ -3,4 +3,4 @@ use Rattle.module_tests.specs.Regular.{AreRegular}
 use Rattle.module_tests.proofs.flow.fault_of.Given as goal
 
 abbrev pub invariant-loop-p : goal.invariant-loop-p
-invariant-loop-p g l = (length l.blocks ≡ l.p) × AreRegular l.blocks l.count
+invariant-loop-p g l = (length l.blocks.items ≡ l.p) × AreRegular l.blocks.items l.count
