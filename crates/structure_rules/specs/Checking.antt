@@ -1,5 +1,5 @@
 -- What the check of a module answers.
-use Rattle.std.specs.Prelude.{ℕ, Result, Ok, Err}
+use Rattle.std.specs.Prelude.{Result, Ok, Err}
 use Rattle.dx_base.specs.First.{IsFirst, IsSound}
 use Rattle.spv_form.specs.declared.module.Module.{Module}
 use Rattle.spv_form.specs.declared.fault.CheckFault.{CheckFault}
