@@ -31,6 +31,9 @@ chain 50000 32
 loops 33000
 switches 6 16383
 fans 100 16383
+picks 100000 0
+picks 1000000 0
+picks 100000 1
 nested 1023
 constants 4194000
 names 2390000

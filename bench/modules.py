@@ -12,6 +12,7 @@
     python3 bench/modules.py returns N OUT       N returns and nothing else, which is refused
     python3 bench/modules.py loads N OUT         N loads and nothing else, which is refused
     python3 bench/modules.py strays N OUT        N blocks, each with a merge instruction too many, which is refused
+    python3 bench/modules.py picks N PAIRS OUT   N blocks, each with a switch of PAIRS cases, that all go to the next block, which is refused
     python3 bench/modules.py labels N OUT        N labels and nothing else, which is refused
     python3 bench/modules.py functions N OUT     N function types that are not listed, which is refused
     python3 bench/modules.py marks N OUT         N ids with a decoration each, which are not defined: it is refused
@@ -179,6 +180,17 @@ def loads(module, count):
         module.put(LOAD, WORD, module.take(), ONE)
 
 
+def picks(module, count, pairs):
+    label = module.take()
+    for _ in range(count):
+        after = module.take()
+        module.put(LABEL, label)
+        module.put(SWITCH, ONE, after, *[word for i in range(pairs) for word in (i, after)])
+        label = after
+    module.put(LABEL, label)
+    module.put(RETURN)
+
+
 def labels(module, count):
     for _ in range(count):
         module.put(LABEL, module.take())
@@ -229,6 +241,7 @@ def main(words):
         "strays": (strays, 1),
         "returns": (returns, 1),
         "loads": (loads, 1),
+        "picks": (picks, 2),
         "labels": (labels, 1),
         "functions": (functions, 1),
         "marks": (marks, 1),

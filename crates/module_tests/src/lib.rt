@@ -4,6 +4,8 @@
 #[cfg(test)]
 mod blocks;
 #[cfg(test)]
+mod bodies;
+#[cfg(test)]
 mod flow;
 #[cfg(test)]
 mod operands;

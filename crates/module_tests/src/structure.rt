@@ -10,7 +10,7 @@ use std::test::Fail;
 use structure_rules::check_module;
 
 /// The rule that the module in these bytes breaks, and its word; None where it breaks none.
-fn answer(alloc: Global, bytes: &[u8]) -> Result<Option<(WordRule, u32)>, Fail>
+pub fn answer(alloc: Global, bytes: &[u8]) -> Result<Option<(WordRule, u32)>, Fail>
     requires { length bytes.now ≤ 2 ^ 26 }
 {
     let module = read_module(alloc, bytes)?;
