@@ -1,8 +1,8 @@
 #!/usr/bin/env bash
 # What other programs say of this one's files. Each check is skipped where its tool is missing.
 #
-# spirv-val (Debian's spirv-tools) must accept the words of the sample shader. llvm-bcanalyzer (Debian's llvm-14) must count as many fields in each record of
-# the sample's bitcode as `show` does.
+# spirv-val (Debian's spirv-tools) must accept the words of the sample shader, and small modules that `check` accepts. llvm-bcanalyzer (Debian's llvm-14)
+# must count as many fields in each record of the sample's bitcode as `show` does.
 set -u
 cd "$(dirname "$0")/.." || exit 1
 program=crates/dxil_cli/out/dxil_cli
@@ -18,6 +18,15 @@ if command -v spirv-val >/dev/null 2>&1; then
   "$program" translate "$sample" "$folder/e.spv" || exit 1
   spirv-val --target-env vulkan1.3 "$folder/e.spv" || exit 1
   echo "spirv-val: accepts the sample's words"
+  if command -v python3 >/dev/null 2>&1; then
+    for kind in "chain 3 2" "nested 4" "loops 3" "switches 2 3" "fans 2 3" "path 4" "constants 3" "names 3"; do
+      # shellcheck disable=SC2086
+      python3 bench/modules.py $kind "$folder/m.spv" || exit 1
+      "$program" check "$folder/m.spv" >/dev/null || exit 1
+      spirv-val --target-env vulkan1.3 "$folder/m.spv" || exit 1
+    done
+    echo "spirv-val: accepts the modules that check accepts"
+  fi
 else
   echo "spirv-val: skipped"
 fi
