@@ -115,7 +115,7 @@ fn answer_of(
 }
 
 /// Functions in pairs: one that breaks a rule S, with its number and word, and a neighbour that breaks none.
-const PAIRS: [(&[Step], u8, u32, &[Step]); 16] = [
+const PAIRS: [(&[Step], u8, u32, &[Step]); 24] = [
     // a conditional branch without a merge instruction
     (
         &[Begin(0), Fork(1, 2), Begin(1), Return, Begin(2), Return],
@@ -151,6 +151,37 @@ const PAIRS: [(&[Step], u8, u32, &[Step]); 16] = [
             Begin(2),
             Branch(1),
             Begin(1),
+            Return,
+        ],
+    ),
+    // a switch without a merge instruction
+    (
+        &[Begin(0), Switch(1, 1, 1), Begin(1), Return],
+        1,
+        46,
+        &[Begin(0), Selection(1), Switch(1, 1, 1), Begin(1), Return],
+    ),
+    // a merge instruction in front of another one
+    (
+        &[
+            Begin(0),
+            Selection(1),
+            Selection(2),
+            Fork(1, 2),
+            Begin(1),
+            Branch(2),
+            Begin(2),
+            Return,
+        ],
+        2,
+        46,
+        &[
+            Begin(0),
+            Selection(2),
+            Fork(1, 2),
+            Begin(1),
+            Branch(2),
+            Begin(2),
             Return,
         ],
     ),
@@ -219,6 +250,37 @@ const PAIRS: [(&[Step], u8, u32, &[Step]); 16] = [
             Return,
         ],
     ),
+    // a continue target before its header
+    (
+        &[
+            Begin(0),
+            Branch(1),
+            Begin(1),
+            Branch(2),
+            Begin(2),
+            Loop(4, 1),
+            Branch(3),
+            Begin(3),
+            Branch(2),
+            Begin(4),
+            Return,
+        ],
+        5,
+        54,
+        &[
+            Begin(0),
+            Branch(1),
+            Begin(1),
+            Branch(2),
+            Begin(2),
+            Loop(4, 3),
+            Branch(3),
+            Begin(3),
+            Branch(2),
+            Begin(4),
+            Return,
+        ],
+    ),
     // a continue target that is the merge block, and a loop of one block whose continue target is its header
     (
         &[
@@ -256,6 +318,65 @@ const PAIRS: [(&[Step], u8, u32, &[Step]); 16] = [
             Begin(2),
             Branch(1),
             Begin(3),
+            Return,
+        ],
+    ),
+    // no way back to a header
+    (
+        &[
+            Begin(0),
+            Branch(1),
+            Begin(1),
+            Loop(3, 2),
+            Fork(2, 3),
+            Begin(2),
+            Branch(3),
+            Begin(3),
+            Return,
+        ],
+        6,
+        50,
+        &[
+            Begin(0),
+            Branch(1),
+            Begin(1),
+            Loop(3, 2),
+            Fork(2, 3),
+            Begin(2),
+            Branch(1),
+            Begin(3),
+            Return,
+        ],
+    ),
+    // a block that branches twice to the header is one, and the block behind it branches to itself
+    (
+        &[
+            Begin(0),
+            Branch(1),
+            Begin(1),
+            Loop(4, 2),
+            Fork(2, 4),
+            Begin(2),
+            Selection(3),
+            Switch(1, 1, 3),
+            Begin(3),
+            Branch(3),
+            Begin(4),
+            Return,
+        ],
+        6,
+        72,
+        &[
+            Begin(0),
+            Branch(1),
+            Begin(1),
+            Loop(4, 2),
+            Fork(2, 4),
+            Begin(2),
+            Branch(3),
+            Begin(3),
+            Branch(1),
+            Begin(4),
             Return,
         ],
     ),
@@ -388,6 +509,37 @@ const PAIRS: [(&[Step], u8, u32, &[Step]); 16] = [
             Return,
         ],
     ),
+    // a way back from outside the continue construct
+    (
+        &[
+            Begin(0),
+            Branch(1),
+            Begin(1),
+            Loop(4, 3),
+            Fork(2, 4),
+            Begin(2),
+            Branch(1),
+            Begin(3),
+            Return,
+            Begin(4),
+            Return,
+        ],
+        8,
+        50,
+        &[
+            Begin(0),
+            Branch(1),
+            Begin(1),
+            Loop(4, 3),
+            Fork(2, 4),
+            Begin(2),
+            Branch(3),
+            Begin(3),
+            Branch(1),
+            Begin(4),
+            Return,
+        ],
+    ),
     // a branch into the middle of a selection, and one to its header
     (
         &[
@@ -489,6 +641,48 @@ const PAIRS: [(&[Step], u8, u32, &[Step]); 16] = [
             Return,
         ],
     ),
+    // a branch out of a loop to the merge block of the switch around it, and one out of a switch to that of the loop around it
+    (
+        &[
+            Begin(0),
+            Selection(6),
+            Switch(6, 1, 6),
+            Begin(1),
+            Loop(5, 4),
+            Fork(2, 5),
+            Begin(2),
+            Selection(3),
+            Fork(3, 6),
+            Begin(3),
+            Branch(4),
+            Begin(4),
+            Branch(1),
+            Begin(5),
+            Branch(6),
+            Begin(6),
+            Return,
+        ],
+        10,
+        71,
+        &[
+            Begin(0),
+            Branch(1),
+            Begin(1),
+            Loop(6, 5),
+            Branch(2),
+            Begin(2),
+            Selection(4),
+            Switch(4, 3, 4),
+            Begin(3),
+            Branch(6),
+            Begin(4),
+            Branch(5),
+            Begin(5),
+            Branch(1),
+            Begin(6),
+            Return,
+        ],
+    ),
     // a case that falls through
     (
         &[
@@ -513,6 +707,21 @@ const PAIRS: [(&[Step], u8, u32, &[Step]); 16] = [
             Begin(2),
             Branch(3),
             Begin(3),
+            Return,
+        ],
+    ),
+    // a loop at the first block
+    (
+        &[Begin(0), Loop(1, 0), Fork(0, 1), Begin(1), Return],
+        12,
+        44,
+        &[
+            Begin(0),
+            Branch(1),
+            Begin(1),
+            Loop(2, 1),
+            Fork(1, 2),
+            Begin(2),
             Return,
         ],
     ),

@@ -6,8 +6,6 @@ mod blocks;
 #[cfg(test)]
 mod bodies;
 #[cfg(test)]
-mod flow;
-#[cfg(test)]
 mod operands;
 #[cfg(test)]
 mod places;
