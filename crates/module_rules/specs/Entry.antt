@@ -1,10 +1,11 @@
 -- V9, V10, V12 and V15: the entry point, its size, and the pairs of a switch.
-use Rattle.std.specs.Prelude.{ℕ, ◌≡◌, ◌+◌, ◌*◌, ◌==◌, ◌||◌, ◌&&◌, nat_le, nat_lt, not, List, [], drop, length, count_by, Bool, Option, if◌then◌else◌}
+use Rattle.std.specs.Prelude.{ℕ, ◌≡◌, ◌+◌, ◌*◌, ◌==◌, ◌||◌, ◌&&◌, nat_le, nat_lt, not, List, [], drop, length, count_by, slice_get, position, Bool, false, Option, option_and_then, if◌then◌else◌}
 use Rattle.std.specs.List.{list_all}
 use Rattle.std.specs.Option.{option_map_or, unwrap_or}
 use Rattle.spv_form.specs.declared.module.Inst.{Inst}
 use Rattle.spv_form.specs.Operands.{string_last}
 use Rattle.spv_ids.specs.Roles.{operand}
+use Rattle.spv_ids.specs.Places.{is_op}
 use Rattle.type_rules.specs.Types.{is_defined_as, is_void}
 
 -- EntryPoint: execution model, function, name, and the ids of its interface, which stand behind the name
@@ -27,9 +28,13 @@ is_wrong_interface insts x = x.opcode == 15 && not (lists_each_once insts (inter
 unfoldable pub is_void_function : List Inst → ℕ → Bool
 is_void_function insts t = is_defined_as insts t (λ f. f.opcode == 33 && (length f.operands == 2 && is_void insts (operand f 1)))
 
--- the id is a Function: type, result, control, and such a function type
+-- the first Function: type, result, control and function type
+abbrev pub function : List Inst → Option Inst
+function insts = option_and_then (slice_get insts) (position (is_op 54) insts)
+
+-- the id is the function's result, and its type is such a function type
 unfoldable pub is_entry : List Inst → ℕ → Bool
-is_entry insts id = is_defined_as insts id (λ f. f.opcode == 54 && is_void_function insts (operand f 3))
+is_entry insts id = option_map_or (λ f. operand f 1 == id && is_void_function insts (operand f 3)) (function insts) false
 
 -- V10: the entry id of an EntryPoint is not the function, or the function's type is not `void ()`.
 unfoldable pub is_wrong_entry : List Inst → Inst → Bool

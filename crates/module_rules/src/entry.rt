@@ -1,6 +1,6 @@
 ghost use Rattle.std.specs.Prelude.{◌≡◌, ◌+◌, ◌<◌, ◌≤◌, ◌^◌, length, IfOk, OnOk};
 ghost use Rattle.std.specs.List.{list_all};
-ghost use Rattle.std.specs.Option.{unwrap_or};
+ghost use Rattle.std.specs.Option.{option_copied, unwrap_or};
 ghost use Rattle.std.specs.Ordering.{nat_cmp};
 ghost use Rattle.std.specs.BTreeMap as tree;
 ghost use Rattle.module_rules.specs.Entry as entry;
@@ -8,7 +8,7 @@ ghost use Rattle.module_rules.specs.Entry as entry;
 use dx_base::OutOfMemory;
 use spirv_words::last_of;
 use spv_form::{Inst, Shape, op};
-use spv_ids::{Ids, operand};
+use spv_ids::{Ids, first_with, operand};
 use std::alloc::Global;
 use std::collections::BTreeMap;
 use type_rules::is_void;
@@ -106,13 +106,23 @@ fn is_void_function(ids: &Ids, ty: u32) -> bool
     }
 }
 
-/// Whether the id is a function of void without parameters.
+/// The function of the module: the first one, if there are several.
+fn function<'a>(insts: &'a [Inst]) -> Option<&'a Inst>
+    ensures { option_copied result ≡ entry.function insts.now }
+{
+    match first_with(insts, op::FUNCTION) {
+        Some(at) => insts.get(at),
+        None => None,
+    }
+}
+
+/// Whether the id is that of the function, and this is of void without parameters.
 #[tactic(auto, unfolding(crate::specs::Entry::is_entry))]
 fn is_entry(ids: &Ids, id: u32) -> bool
     ensures { result ≡ entry.is_entry ids.now id }
 {
-    match ids.definition(id) {
-        Some(inst) => inst.opcode == op::FUNCTION && is_void_function(ids, operand(inst, 3)),
+    match function(ids.insts()) {
+        Some(inst) => operand(inst, 1) == id && is_void_function(ids, operand(inst, 3)),
         None => false,
     }
 }

@@ -271,7 +271,7 @@ const SHADER: [u32; 240] = [
 
 /// Words of the shader that others replace: the word from which on, how many, how many others, these, and the rule that the module then breaks with its
 /// word, or 0 where it breaks none.
-const CASES: [(usize, usize, usize, [u32; 11], u8, u32); 66] = [
+const CASES: [(usize, usize, usize, [u32; 11], u8, u32); 67] = [
     // a name behind a decoration
     (
         32,
@@ -710,6 +710,15 @@ const CASES: [(usize, usize, usize, [u32; 11], u8, u32); 66] = [
         [0x0009_000F, 5, 22, 0x6E69_616D, 0, 8, 14, 15, 21, 0, 0],
         10,
         10,
+    ),
+    // a constant with the id of the function
+    (
+        143,
+        0,
+        4,
+        [0x0004_002B, 4, 1, 7, 0, 0, 0, 0, 0, 0, 0],
+        3,
+        147,
     ),
     // a variable behind a load
     (
