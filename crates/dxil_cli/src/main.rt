@@ -1,23 +1,11 @@
 //! Translates a compiled compute shader, a DXBC container, into a SPIR-V module, or shows what it is made of.
 #![tactic(auto)]
 
-mod command_line;
-#[cfg(test)]
-mod example;
-mod module_words;
-mod output;
-mod status;
-#[cfg(test)]
-mod tests;
-mod top;
-mod translate;
-
 use dx_outside::{HostFiles, HostSink};
-pub use status::Status;
+pub use dx_run::{Status, run};
 use std::env;
 use std::io::{self, ErrorKind};
 use std::process::ExitCode;
-pub use top::run;
 
 /// The exit status where the host doesn't give the words, and not for want of memory.
 const NO_WORDS: u8 = 8;

@@ -5,7 +5,7 @@ use Rattle.dx_base.specs.declared.fault.Fault.{Fault}
 use Rattle.dx_base.specs.declared.fault.Fault.TheVariants.{Refused}
 use Rattle.dx_base.specs.declared.fault.Rule.TheVariants.{N}
 use Rattle.llvm_facts.specs.Facts.{CheckAnswer}
-use Rattle.llvm_metadata.specs.declared.item.Meta.{Meta}
+use Rattle.llvm_nodes.specs.declared.item.Meta.{Meta}
 use Rattle.llvm_facts.specs.declared.roots.Root.TheVariants.{ShaderModel, EntryPoints}
 use Rattle.llvm_facts.specs.Module.{Module}
 use Rattle.llvm_facts.specs.Values.{node_at}

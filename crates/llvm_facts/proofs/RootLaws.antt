@@ -4,7 +4,7 @@ use Rattle.std.specs.List.{list_any}
 use Rattle.std.proofs.lemmas.List.{take_more}
 use Rattle.std.proofs.lemmas.List.Folds.{list_any-append}
 use Rattle.std.proofs.lemmas.Option.{slice_get-get_or}
-use Rattle.llvm_metadata.specs.declared.item.Named.{Named}
+use Rattle.llvm_nodes.specs.declared.item.Named.{Named}
 use Rattle.llvm_facts.specs.declared.roots.Root.{Root}
 use Rattle.llvm_facts.specs.Module.{Module}
 use Rattle.llvm_facts.specs.Faults.{IsFault, IsLeastBit, lesser}

@@ -1,5 +1,5 @@
 -- The thread counts of a group, which the fifth field of the entry node has under the tag 4.
-use Rattle.std.specs.Prelude.{ℕ, ◌≡◌, ◌==◌, ◌&&◌, ◌||◌, ◌*◌, ◌-◌, List, [], ◌∷◌, length, get_or, Bool, true, false, false, nat_lt, Option, Some, None, is_some, unwrap_or, count_by}
+use Rattle.std.specs.Prelude.{ℕ, ◌≡◌, ◌==◌, ◌&&◌, ◌||◌, ◌*◌, ◌-◌, ◌%◌, List, [], ◌∷◌, length, get_or, Bool, true, false, false, nat_lt, Option, Some, None, is_some, unwrap_or, count_by}
 use Rattle.std.specs.List.{list_all}
 use Rattle.llvm_facts.specs.Module.{Module}
 use Rattle.llvm_facts.specs.Values.{node_at, i32_at, bit_of}
@@ -10,11 +10,12 @@ abbrev pub are_counts : Module → Option (List ℕ) → Bool
 are_counts m None = false
 are_counts m (Some fields) = length fields == 3 && list_all (λ field. is_some (i32_at m field)) fields
 
--- A node of pairs whose tags are `i32` constants, with exactly one pair of tag 4, whose value is a node of three such constants.
+-- A node of pairs whose tags are `i32` constants, with exactly one pair of tag 4, whose value is a node of three such constants. A node of an odd number of fields is no node of pairs.
 abbrev pub has_threads : Module → Option (List ℕ) → Bool
 has_threads m None = false
 has_threads m (Some fields) =
-    list_all (λ pair. is_some (i32_at m pair.0)) (pairs fields)
+    length fields % 2 == 0
+    && list_all (λ pair. is_some (i32_at m pair.0)) (pairs fields)
     && count_by (has_tag m 4) (pairs fields) == 1
     && are_counts m (node_at m (tagged m 4 fields))
 

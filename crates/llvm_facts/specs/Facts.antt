@@ -5,7 +5,7 @@ use Rattle.dx_base.specs.declared.fault.Fault.{Fault}
 use Rattle.dx_base.specs.declared.fault.Fault.TheVariants.{Refused, OutOfMemory}
 use Rattle.dx_base.specs.declared.fault.Rule.TheVariants.{N}
 use Rattle.dxil_form.specs.declared.program.Class.TheVariants.{Srv, Uav, Cbv}
-use Rattle.llvm_metadata.specs.declared.item.Meta.{Meta}
+use Rattle.llvm_nodes.specs.declared.item.Meta.{Meta}
 use Rattle.llvm_facts.specs.Module.{Module}
 use Rattle.llvm_facts.specs.Values.{body_at}
 use Rattle.llvm_facts.specs.Entry.{local as counts_of}

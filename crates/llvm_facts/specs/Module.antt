@@ -1,6 +1,6 @@
 -- A module's lists by number, as the fields of its metadata name them.
 use Rattle.std.specs.Prelude.{ℕ, List}
-use Rattle.llvm_metadata.specs.declared.item.MetaItem.{MetaItem}
+use Rattle.llvm_nodes.specs.declared.item.MetaItem.{MetaItem}
 use Rattle.llvm_types.specs.declared.kind.LlvmType.{LlvmType}
 use Rattle.llvm_values.specs.declared.global.Global.{Global}
 

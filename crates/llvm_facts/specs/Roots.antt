@@ -2,7 +2,7 @@
 use Rattle.std.specs.Prelude.{ℕ, ◌≡◌, ◌==◌, ◌&&◌, ◌||◌, ◌⊎◌, List, length, get_or, Bool, false, not, nat_eq, nat_le, codes, Option, Some, None, is_some, find}
 use Rattle.std.specs.List.{list_any}
 use Rattle.std.specs.Cmp.Lexicographic.{pointwise}
-use Rattle.llvm_metadata.specs.declared.item.Named.{Named}
+use Rattle.llvm_nodes.specs.declared.item.Named.{Named}
 use Rattle.llvm_facts.specs.declared.lookup.Whole.{Whole}
 use Rattle.llvm_facts.specs.declared.roots.Root.{Root}
 use Rattle.llvm_facts.specs.declared.roots.Root.TheVariants.{ShaderModel, EntryPoints}

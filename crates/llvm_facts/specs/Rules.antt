@@ -1,6 +1,6 @@
 -- The rules of the facts, N5 to N9: which of them is broken, at which bit. Where several are, the one of least number counts, and of one rule the least bit.
 use Rattle.std.specs.Prelude.{ℕ, ◌≡◌, ◌<◌, ◌≤◌, List, [], unwrap_or}
-use Rattle.llvm_metadata.specs.declared.item.Meta.{Meta}
+use Rattle.llvm_nodes.specs.declared.item.Meta.{Meta}
 use Rattle.llvm_types.specs.declared.kind.LlvmType.{LlvmType}
 use Rattle.llvm_values.specs.declared.global.Global.{Global}
 use Rattle.llvm_facts.specs.declared.roots.Root.TheVariants.{ShaderModel, EntryPoints}

@@ -1,8 +1,8 @@
 -- What a field of a node names. The ids of a node stand plus one, with 0 for null; a field that is missing reads as 0.
 use Rattle.std.specs.Prelude.{ℕ, ◌==◌, ◌&&◌, not, length, ◌%◌, ◌^◌, ◌-◌, List, slice_get, get_or, Bool, true, false, Option, Some, None, if◌then◌else◌}
 use Rattle.std.specs.Int.{cast_unsigned, w64}
-use Rattle.llvm_metadata.specs.declared.item.MetaItem.{MetaItem}
-use Rattle.llvm_metadata.specs.declared.item.MetaItem.TheVariants.{Text, Value, Node}
+use Rattle.llvm_nodes.specs.declared.item.MetaItem.{MetaItem}
+use Rattle.llvm_nodes.specs.declared.item.MetaItem.TheVariants.{Text, Value, Node}
 use Rattle.llvm_types.specs.declared.kind.LlvmType.{LlvmType}
 use Rattle.llvm_types.specs.declared.kind.LlvmType.TheVariants as types
 use Rattle.llvm_values.specs.declared.global.Global.{Global}

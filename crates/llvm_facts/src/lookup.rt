@@ -3,7 +3,7 @@ ghost use Rattle.std.specs.Option.{option_copied};
 ghost use Rattle.llvm_facts.specs.Values as is;
 ghost use Rattle.llvm_facts.specs.Entry.{fields_at, number_at};
 
-use llvm_metadata::MetaItem;
+use llvm_nodes::MetaItem;
 use llvm_types::LlvmType;
 use llvm_values::{ConstKind, Global};
 use std::marker::Model;

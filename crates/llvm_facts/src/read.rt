@@ -14,7 +14,7 @@ use crate::roots::{Root, has_name, root_fault};
 use crate::rows::{all_rows, list_fault, strides_of};
 use crate::threads::{counts, counts_field, field_at, has_threads, is_outside};
 use dx_base::{Fault, OutOfMemory, Rule};
-use llvm_metadata::{Meta, Named};
+use llvm_nodes::{Meta, Named};
 use llvm_types::Types;
 use llvm_values::GlobalList;
 use std::alloc::Global;

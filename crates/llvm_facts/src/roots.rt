@@ -5,7 +5,7 @@ ghost use Rattle.llvm_facts.specs.Faults as faults;
 ghost use Rattle.llvm_facts.specs.Roots as is;
 
 use crate::lookup::{Lookup, Whole};
-use llvm_metadata::Named;
+use llvm_nodes::Named;
 
 /// A named node that a compute shader has.
 #[derive(Clone, Copy, Debug, PartialEq, Eq)]

@@ -16,7 +16,7 @@ use crate::tags::{is_i32, says, tagged};
 use crate::threads::field_at;
 use dx_base::{List, OutOfMemory};
 use dxil_form::Class;
-use llvm_metadata::MetaItem;
+use llvm_nodes::MetaItem;
 use std::alloc::Global;
 use std::collections::BTreeSet;
 

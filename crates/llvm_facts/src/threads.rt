@@ -34,7 +34,8 @@ pub fn has_threads(lookup: &Lookup, field: u32) -> bool
 {
     match lookup.node(field) {
         Some(fields) => {
-            are_tags(lookup, fields)
+            fields.len() % 2 == 0
+                && are_tags(lookup, fields)
                 && count_tag(lookup, THREADS, fields) == 1
                 && are_counts(lookup, tagged(lookup, THREADS, fields))
         }

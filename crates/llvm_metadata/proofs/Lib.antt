@@ -1,1 +1,1 @@
-pub mod Progress
+mod Counts

@@ -1,10 +1,8 @@
-//! The metadata of a module: its numbered records and its named nodes.
+//! The metadata of a module, and what they say of its compute shader, over the module's types and records.
 #![tactic(auto)]
 
-mod code;
-mod item;
 mod read;
-mod table;
 
-pub use item::{Meta, MetaItem, MetaList, Named, NamedList};
-pub use read::read_metadata;
+pub use llvm_facts::{Facts, Row, RowList};
+pub use llvm_nodes::{Meta, MetaItem, MetaList, Named, NamedList};
+pub use read::{read_metadata, shader_facts};

@@ -4,4 +4,6 @@
 mod facts;
 mod read;
 
+pub use llvm_bodies::{Body, BodyList, Line, LineList};
+pub use llvm_values::{ConstKind, Global, GlobalList};
 pub use read::{Records, read_module_records};

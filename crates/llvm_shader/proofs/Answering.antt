@@ -1,10 +1,6 @@
 -- The answers of the readers of the layers, as that on the shader.
 use Rattle.std.proofs.Common.{ℕ, ◌≡◌, ◌∙◌, ◌<◌, ◌≤◌, ◌^◌, Some, refl, sym, ap, subst, arith, List, length, Result, Ok, Err}
 use Rattle.std.proofs.lemmas.Bool.{ne_eqb}
-use Rattle.std.proofs.lemmas.List.{length-map}
-use Rattle.bitstream_spelling.specs.Framed.{IsFramed}
-use Rattle.llvm_records.specs.Facts.{signature_of, called_by}
-use Rattle.llvm_records.proofs.FewLaws.{facts_few}
 use Rattle.dx_base.specs.First.{IsFirst, IsSound}
 use Rattle.dx_base.specs.declared.fault.Fault.{Fault}
 use Rattle.dx_base.specs.declared.fault.Fault.TheVariants.{Refused, Limit, OutOfMemory}
@@ -21,9 +17,9 @@ use Rattle.llvm_types.specs.Reading.{TypesAnswer}
 use Rattle.llvm_bodies.specs.Reading.{fault_of, Tells}
 use Rattle.llvm_records.specs.declared.read.Records.{Records as AllRecords}
 use Rattle.llvm_records.specs.Reading.{RecordsAnswer, AreRecords, Broken as BreaksRecords}
-use Rattle.llvm_metadata.specs.Reading.{MetaAnswer}
-use Rattle.llvm_metadata.specs.Metadata.{IsMeta}
-use Rattle.llvm_metadata.specs.declared.item.Meta.{Meta}
+use Rattle.llvm_nodes.specs.Reading.{MetaAnswer}
+use Rattle.llvm_nodes.specs.Metadata.{IsMeta}
+use Rattle.llvm_nodes.specs.declared.item.Meta.{Meta}
 use Rattle.llvm_facts.specs.Facts.{FactsAnswer}
 use Rattle.llvm_facts.specs.Rules.{module_of}
 use Rattle.llvm_facts.specs.declared.facts.Facts.{Facts}
@@ -115,14 +111,5 @@ module _ (is : List Item) (fs : List ℕ) where
       → ShaderAnswer is fs (Ok (record { types = types; records = records; facts = facts }))
   shader_whole types records facts t r f = (record { types = t; records = r; meta = f.0.meta; is_meta = f.0.is_meta; facts = f.0.are_facts }, f.1)
 
-  -- the counts of types and values
   pub same_values : (all : List LlvmType) (globals : List Global) → all ≡ types_of is fs → globals ≡ values_of is fs all → globals ≡ values_of is fs (types_of is fs)
   same_values all globals e g = g ∙ ap (values_of is fs) e
-
-  pub few_types : (all : List LlvmType) → IsFramed is fs → all ≡ types_of is fs → length all < 2 ^ 32
-  few_types all f e = let few = facts_few is fs f in omega (arith, ap length e, few.types, length-map (types_of is fs) (λ t. signature_of (types_of is fs) (Some t)))
-
-  pub few_values : (all : List LlvmType) (globals : List Global) → IsFramed is fs → all ≡ types_of is fs → globals ≡ values_of is fs all → length globals < 2 ^ 32
-  few_values all globals f e g =
-      let few = facts_few is fs f in
-      omega (arith, ap length (same_values all globals e g), few.values, length-map (values_of is fs (types_of is fs)) (called_by (types_of is fs)))

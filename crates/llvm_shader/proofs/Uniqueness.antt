@@ -20,10 +20,10 @@ use Rattle.llvm_bodies.specs.declared.line.Body.{Body}
 use Rattle.llvm_layout.specs.declared.letter.Parts.{Parts}
 use Rattle.llvm_records.specs.Reading.{AreRecords, facts_in, Broken as BreaksRecords}
 use Rattle.llvm_records.specs.declared.read.Records.{Records}
-use Rattle.llvm_metadata.specs.Metadata.{IsMeta}
-use Rattle.llvm_metadata.specs.declared.item.Meta.{Meta}
-use Rattle.llvm_metadata.specs.declared.item.MetaItem.{MetaItem}
-use Rattle.llvm_metadata.specs.declared.item.Named.{Named}
+use Rattle.llvm_nodes.specs.Metadata.{IsMeta}
+use Rattle.llvm_nodes.specs.declared.item.Meta.{Meta}
+use Rattle.llvm_nodes.specs.declared.item.MetaItem.{MetaItem}
+use Rattle.llvm_nodes.specs.declared.item.Named.{Named}
 use Rattle.llvm_facts.specs.Rules.{IsFirstByNumber, entry_of}
 use Rattle.llvm_facts.specs.Facts.{AreFacts}
 use Rattle.llvm_facts.specs.declared.facts.Facts.{Facts}

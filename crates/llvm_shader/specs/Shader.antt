@@ -10,9 +10,9 @@ use Rattle.llvm_types.specs.Rules.{Broken as BreaksTypes}
 use Rattle.llvm_values.specs.Values.{values_of}
 use Rattle.llvm_bodies.specs.Reading.{fault_of}
 use Rattle.llvm_records.specs.Reading.{AreRecords, Broken as BreaksRecords}
-use Rattle.llvm_metadata.specs.Metadata.{IsMeta}
-use Rattle.llvm_metadata.specs.Rules.{Broken as BreaksMetadataOf}
-use Rattle.llvm_metadata.specs.declared.item.Meta.{Meta}
+use Rattle.llvm_nodes.specs.Metadata.{IsMeta}
+use Rattle.llvm_nodes.specs.Rules.{Broken as BreaksMetadataOf}
+use Rattle.llvm_nodes.specs.declared.item.Meta.{Meta}
 use Rattle.llvm_facts.specs.Module.{Module}
 use Rattle.llvm_facts.specs.Rules.{module_of, entry_of, IsFirstByNumber, Broken as BreaksFactsOf}
 use Rattle.llvm_facts.specs.Facts.{AreFacts}

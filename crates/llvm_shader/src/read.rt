@@ -9,8 +9,7 @@ ghost use Rattle.llvm_shader.specs.Shader.{ShaderAnswer, FactsStand};
 
 use bitstream_spelling::Items;
 use dx_base::Fault;
-use llvm_facts::{Facts, shader_facts};
-use llvm_metadata::read_metadata;
+use llvm_metadata::{Facts, read_metadata, shader_facts};
 use llvm_records::{Records, read_module_records};
 use llvm_types::{Types, read_types};
 use std::alloc::Global;
@@ -32,10 +31,8 @@ fn facts_of(alloc: Global, items: &Items, types: &Types, records: &Records) -> R
     requires sound_records { IsSound (BreaksRecords items.now.list items.now.fields) }
     ensures { FactsStand items.now.list items.now.fields result }
 {
-    let type_count = types.list.len() as u32;
-    let value_count = records.globals.len() as u32;
-    match read_metadata(alloc, items, type_count, value_count) {
-        Ok(meta) => shader_facts(alloc, &meta, types, &records.globals),
+    match read_metadata(alloc, items, types, records) {
+        Ok(meta) => shader_facts(alloc, &meta, types, records),
         Err(fault) => Err(fault),
     }
 }

@@ -1,7 +1,7 @@
 -- The values of a module by number (LLVM 3.7 bitcode file format, "MODULE_BLOCK Contents", "CONSTANTS_BLOCK Contents" and "VALUE_SYMTAB_BLOCK
 -- Contents"): the entry with number i is that of the i-th record that takes a number, whatever rule is broken. Fields that are missing read as 0, and
 -- numbers of types and values count modulo 2 ^ 32.
-use Rattle.std.specs.Prelude.{ℕ, ℤ, pos, negsuc, neg_ℤ, ◌+◌, ◌-◌, ◌*◌, ◌/◌, ◌%◌, ◌^◌, ◌==◌, ◌&&◌, ◌||◌, List, [], ◌∷◌, ◌++◌, length, get_or, slice_get, drop, map, reverse, Bool, not, if◌then◌else◌, Option, Some, None}
+use Rattle.std.specs.Prelude.{ℕ, ℤ, pos, negsuc, neg_ℤ, ◌+◌, ◌-◌, ◌*◌, ◌/◌, ◌%◌, ◌^◌, ◌==◌, ◌&&◌, ◌||◌, List, [], ◌∷◌, ◌++◌, length, get_or, slice_get, drop, map, reverse, Bool, not, nat_lt, if◌then◌else◌, Option, Some, None}
 use Rattle.std.specs.List.{list_any, count_by, find, range_with_len}
 use Rattle.std.specs.Option.{option_map}
 use Rattle.bitstream_spelling.specs.Framed.{bit_of}
@@ -125,12 +125,12 @@ takes_value s = states_variable s || states_function s || states_constant s
 abbrev pub has_body : List ℕ → Site → Bool
 has_body fs s = states_function s && is_defined (fields_of fs s.item)
 
--- VST_ENTRY, a record of code 1 of a block 14 of the module: a value number, and the characters of its name
+-- VST_ENTRY, a record of code 1 of a block 14 of the module: a value number, and the characters of its name. Without a field it names nothing.
 abbrev pub is_symbol : Site → Bool
 is_symbol s = is_record_of 14 s && code_of s.item == 1
 
 abbrev pub names : List ℕ → ℕ → Site → Bool
-names fs number s = is_symbol s && field_of fs s.item 0 % 2 ^ 32 == number
+names fs number s = is_symbol s && nat_lt 0 (length (fields_of fs s.item)) && field_of fs s.item 0 % 2 ^ 32 == number
 
 -- the first symbol of a value
 abbrev pub symbol_of : List ℕ → List Site → ℕ → Option Item

@@ -25,7 +25,11 @@ fn note_symbol(symbols: &mut [Option<Item>], around: &OpenBlocks, item: Item, fi
     if !is_symbol(around, item) {
         return;
     }
-    let number = number_of(field_at(fields_of(item, fields), 0)) as usize;
+    let fields = fields_of(item, fields);
+    if fields.len() == 0 {
+        return;
+    }
+    let number = number_of(field_at(fields, 0)) as usize;
     if number < symbols.len() && symbols[number].is_none() {
         symbols[number] = Some(item);
     }

@@ -3,7 +3,7 @@
 use dx_base::{Bytes, Fault, List, Numbers, Rule};
 use dxil_form::Class;
 use llvm_facts::{Facts, Row, shader_facts};
-use llvm_metadata::{Meta, MetaItem, Named};
+use llvm_nodes::{Meta, MetaItem, Named};
 use llvm_types::{LlvmType, Types};
 use llvm_values::{ConstKind, Global as Value, GlobalList};
 use std::alloc::Global;

@@ -3,14 +3,14 @@
 use crate::writer::Piece::{self, Define, End, Enter, Record};
 use crate::writer::items_of;
 use dx_base::{Fault, Rule};
-use llvm_metadata::{Meta, MetaItem, read_metadata};
+use llvm_nodes::{Meta, MetaItem, read_nodes};
 use std::alloc::Global;
 use std::test::Fail;
 
 /// The metadata of the pieces, in a module of three types and two values, or the fault.
 fn read(alloc: Global, pieces: &[Piece]) -> Result<Result<Meta, Fault>, Fail> {
     let items = items_of(alloc, pieces)?;
-    Ok(read_metadata(alloc, &items, 3, 2))
+    Ok(read_nodes(alloc, &items, 3, 2))
 }
 
 /// How many numbered records the pieces state, or the fault.

@@ -1,0 +1,2 @@
+pub mod ModuleWords
+pub mod Verdicts

@@ -1,4 +1,0 @@
-pub mod VerdictLaws
-pub mod Unique
-pub mod Answering
-pub mod Leaving

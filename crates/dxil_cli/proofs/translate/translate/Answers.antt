@@ -1,8 +1,0 @@
-use Rattle.dxil_cli.proofs.VerdictLaws.{module_verdict, layers_verdict}
-use Rattle.dxil_cli.proofs.translate.translate.Goals as goal
-
-pub returns-in-Ok : goal.returns-in-Ok
-returns-in-Ok c = module_verdict _ _ _ _ _ c.in-Ok.ensures.exact.0 c.translate_items.ensures
-
-pub returns-in-Err : goal.returns-in-Err
-returns-in-Err c = layers_verdict _ _ c.in-Err.ensures.exact

@@ -1,8 +1,0 @@
-use Rattle.dxil_cli.proofs.VerdictLaws.{shader_verdict, module_fault}
-use Rattle.dxil_cli.proofs.translate.translate_items.Goals as goal
-
-pub returns-in-Ok : goal.returns-in-Ok
-returns-in-Ok c = shader_verdict _ _ _ _ c.in-Ok.ensures c.translate_shader.ensures
-
-pub returns-in-Err : goal.returns-in-Err
-returns-in-Err c = module_fault _ _ _ c.in-Err.ensures

@@ -1,5 +1,0 @@
-use Rattle.llvm_metadata.proofs.Progress.{IsReading}
-use Rattle.llvm_metadata.proofs.read.meta_in.Given as goal
-
-abbrev pub invariant-loop-i : goal.invariant-loop-i
-invariant-loop-i l = IsReading l.list l.fields l.types l.values l.i l.reader
