@@ -1,5 +1,5 @@
 -- What the reader has after one more item.
-use Rattle.std.proofs.Common.{ℕ, ◌≡◌, ◌+◌, ◌<◌, ◌≤◌, refl, sym, ap, ◌∙◌, subst, arith, List, [], ◌∷◌, ◌++◌, length, take, drop, get_or, slice_get, map, Some, None, Option, Bool, true, false, Err, is_some, if◌then◌else◌, append-nil, append_assoc, length-append, length-take, length-drop, ◌-◌, take_all}
+use Rattle.std.proofs.Common.{ℕ, ◌≡◌, ◌+◌, ◌<◌, ◌≤◌, refl, sym, ap, ◌∙◌, subst, arith, List, [], ◌∷◌, ◌++◌, length, take, drop, get_or, slice_get, map, Some, None, Option, Bool, true, false, Err, is_some, if◌then◌else◌, append-nil, append_assoc, length-take, length-drop, ◌-◌, take_all}
 use Rattle.std.proofs.lemmas.List.{take_more, map-append}
 use Rattle.std.proofs.lemmas.List.Elements.{filter-append}
 use Rattle.std.proofs.lemmas.Option.{slice_get-get_or}
@@ -8,7 +8,7 @@ use Rattle.dx_base.specs.First.{IsFirst, IsSound, IsClear}
 use Rattle.dx_base.specs.Sentences.{first_that_holds, Stated}
 use Rattle.dx_base.proofs.FirstLaws.{clear_none, clear_more, first_here, sound_of}
 use Rattle.dx_base.proofs.SentenceLaws.{least_stated, none_stated}
-use Rattle.bitstream_spelling.specs.Framed.{IsFramed, bit_of, open_after, open_behind}
+use Rattle.bitstream_spelling.specs.Framed.{IsFramed, bit_of, open_after}
 use Rattle.bitstream_spelling.specs.declared.item.Item.{Item}
 use Rattle.llvm_items.specs.Sites.{Site, sites, code_of, fields_of, bit_at}
 use Rattle.llvm_items.proofs.SiteLaws.{take-sites, site-at, length-sites, sites-rise, site_of, sites_more, open_more}

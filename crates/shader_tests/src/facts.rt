@@ -580,7 +580,7 @@ const ENTRY_CASES: [Case; 20] = [
         "a field behind the last pair",
         &[Node(11, &[7, 11, 7])],
         ROOTS,
-        None,
+        Some((7, 220)),
     ),
     ("the tag alone", &[Node(11, &[7])], ROOTS, Some((7, 220))),
     (

@@ -451,6 +451,17 @@ const BY_NUMBER: [(&'static str, &'static [Piece], &'static [&'static str]); 4] 
         ],
     ),
     (
+        "a function behind a symbol that has no field",
+        &[
+            Enter(14),
+            Record(1, &[]),
+            Record(1, &[0, 100]),
+            End,
+            Record(8, &[4, 0, 0]),
+        ],
+        &["Function { ty: 3, body: Some(0), name: List { items: [100] }, bit: 448 }"],
+    ),
+    (
         "functions, with names that stand before and behind",
         &[
             Enter(14),

@@ -1,5 +1,4 @@
-use Rattle.std.proofs.Common.{◌≡◌, ap, arith, subst, sym, length}
-use Rattle.llvm_nodes.specs.Reading.{MetaAnswer}
+use Rattle.std.proofs.Common.{arith}
 use Rattle.llvm_metadata.proofs.Counts.{few_types, few_values}
 use Rattle.llvm_metadata.proofs.read.read_metadata.Goals as goal
 
