@@ -10,7 +10,7 @@ use Rattle.dxil_form.specs.declared.instr.Addr.TheVariants.{Byte, Element, Row, 
 use Rattle.dxil_form.specs.declared.instr.CastOp.{CastOp}
 use Rattle.dxil_form.specs.declared.instr.CastOp.TheVariants.{Trunc, Zext, Sext}
 use Rattle.dxil_form.specs.declared.instr.Instr.{Instr}
-use Rattle.dxil_form.specs.declared.instr.Instr.TheVariants.{Bin, Cmp, Cast, Select, Copy, One, Two, Mad, Id, Load, Store, Atomic, Swap, Barrier, Nothing}
+use Rattle.dxil_form.specs.declared.instr.Instr.TheVariants.{Bin, Cmp, Cast, Select, Copy, One, Two, Mad, Id, Size, Load, Store, Atomic, Swap, Barrier, Nothing}
 use Rattle.dxil_form.specs.declared.block.Term.{Term}
 use Rattle.dxil_form.specs.declared.block.Term.TheVariants.{Ret, Unreachable, Go, If, Switch}
 use Rattle.dxil_form.specs.declared.block.Entry.{Entry}
@@ -59,6 +59,7 @@ set_by (One to op a) = typed to Int ∷ []
 set_by (Two to op a b) = typed to Int ∷ []
 set_by (Mad to a b c) = typed to Int ∷ []
 set_by (Id to op part) = typed to Int ∷ []
+set_by (Size to buffer) = typed to Int ∷ []
 set_by (Load to mask target addr) = map (λ c. typed (part_of to c) Int) (parts_of mask)
 set_by (Store mask target addr x y z w) = []
 set_by (Atomic to op target addr value) = typed to Int ∷ []
@@ -87,6 +88,7 @@ operands_of (One to op a) = typed a Int ∷ []
 operands_of (Two to op a b) = typed a Int ∷ typed b Int ∷ []
 operands_of (Mad to a b c) = typed a Int ∷ typed b Int ∷ typed c Int ∷ []
 operands_of (Id to op part) = []
+operands_of (Size to buffer) = []
 operands_of (Load to mask target addr) = numbers (in_address addr)
 operands_of (Store mask target addr x y z w) = numbers (in_address addr ++ (x ∷ y ∷ z ∷ w ∷ []))
 operands_of (Atomic to op target addr value) = numbers (in_address addr ++ (value ∷ []))

@@ -19,7 +19,7 @@ use Rattle.dxil_form.specs.declared.instr.IdOp.TheVariants.{Flat}
 use Rattle.dxil_form.specs.declared.instr.Scope.{Scope}
 use Rattle.dxil_form.specs.declared.instr.Scope.TheVariants.{Nobody, Group, Device}
 use Rattle.dxil_form.specs.declared.instr.Instr.{Instr}
-use Rattle.dxil_form.specs.declared.instr.Instr.TheVariants.{Bin, Cmp, Id, Load, Store, Atomic, Swap, Barrier}
+use Rattle.dxil_form.specs.declared.instr.Instr.TheVariants.{Bin, Cmp, Id, Size, Load, Store, Atomic, Swap, Barrier}
 use Rattle.dxil_form.specs.declared.block.Term.{Term}
 use Rattle.dxil_form.specs.declared.block.Term.TheVariants.{Switch}
 use Rattle.dxil_form.specs.declared.block.Entry.{Entry}
@@ -32,7 +32,7 @@ use Rattle.dxil_form.specs.declared.program.Kind.TheVariants.{Raw, Structured, C
 use Rattle.dxil_form.specs.declared.program.Resource.{Resource}
 use Rattle.dxil_form.specs.declared.program.Program.{Program}
 use Rattle.dxil_form.specs.Branches.{branches}
-use Rattle.dxil_form.specs.Registers.{Typed, Spot, Sets, operands_of, term_operands}
+use Rattle.dxil_form.specs.Registers.{Typed, Spot, Sets, in_address, operands_of, term_operands}
 
 -- ---- registers and operands
 
@@ -112,6 +112,17 @@ AccessFits p use_as (Buffer r) addr =
     (resource : Resource) × (slice_get p.resources r ≡ Some resource) × AddrFits use_as addr resource
 AccessFits p use_as (Shared a) addr = (a < length p.shared) × IsIndex addr
 
+-- the resource is laid out as words without rows
+abbrev pub IsBuffer : Kind → Type 0
+IsBuffer Raw = Unit {0}
+IsBuffer (Structured stride) = Unit {0}
+IsBuffer (Constant rows) = ⊥
+
+-- a size is that of a raw or structured buffer of the list, which may be read only or written too
+abbrev pub SizedFits : Program → ℕ → Type 0
+SizedFits p buffer =
+    (resource : Resource) × (slice_get p.resources buffer ≡ Some resource) × IsBuffer resource.kind × ClassFits Loads resource.class
+
 -- the bit of a barrier mode
 abbrev pub mode_bit : ℕ → ℕ → std.Bool
 mode_bit mode i = nat_eq (mode / 2 ^ i % 2) 1
@@ -131,11 +142,12 @@ abbrev pub PartFits : IdOp → ℕ → Type 0
 PartFits Flat part = part ≡ 0
 PartFits _ part = part ≤ 2
 
--- operations, masks, components, accesses and barriers are in their ranges
+-- operations, masks, components, sizes, accesses and barriers are in their ranges
 abbrev pub InstrFits : Program → Instr → Type 0
 InstrFits p (Bin to op ty a b) = BinFits op ty
 InstrFits p (Cmp to op ty a b) = CmpFits op ty
 InstrFits p (Id to op part) = PartFits op part
+InstrFits p (Size to buffer) = SizedFits p buffer
 InstrFits p (Load to mask target addr) = (mask ≤ 15) × AccessFits p Loads target addr
 InstrFits p (Store mask target addr x y z w) = (1 ≤ mask) × (mask ≤ 15) × AccessFits p Writes target addr
 InstrFits p (Atomic to op target addr value) = AccessFits p Writes target addr
@@ -225,9 +237,11 @@ pub record Sound (p : Program) : Type 0 where
   -- each operand has the type that its place takes
   pub line_types : (b n k : ℕ) (instr : Instr) (a : Typed Operand) → LineAt p b n instr → slice_get (operands_of instr) k ≡ Some a → HasType p a.item a.ty
   pub end_types : (b k : ℕ) (term : Term) (a : Typed Operand) → EndAt p b term → slice_get (term_operands term) k ≡ Some a → HasType p a.item a.ty
-  -- operations, masks, components, accesses, barriers and cases are such as a file may have
+  -- operations, masks, components, sizes, accesses, barriers and cases are such as a file may have
   pub lines : (b n : ℕ) (instr : Instr) → LineAt p b n instr → InstrFits p instr
   pub ends : (b : ℕ) (term : Term) → EndAt p b term → TermFits term
+  -- no address of a load names a register of the load's own value: a load of a buffer gives parts, which no address takes, and the index of a groupshared load is a value of its own
+  pub own_value : (b n to mask : ℕ) (target : Target) (addr : Addr) (reg : Reg) (ty : Ty) → LineAt p b n (Load to mask target addr) → Contains (in_address addr) (operand.Reg reg ty) → reg.value ≢ to
   -- resources, thread counts, groupshared arrays and counts are in their bounds
   pub resources : (r : ℕ) (resource : Resource) → slice_get p.resources r ≡ Some resource → ResourceFits resource
   pub apart : (r s : ℕ) (a b : Resource) → slice_get p.resources r ≡ Some a → slice_get p.resources s ≡ Some b → IsSamePlace a b → r ≡ s

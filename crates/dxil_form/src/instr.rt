@@ -178,6 +178,11 @@ pub enum Instr {
         op: IdOp,
         part: u8,
     },
+    /// The number of words of a buffer, which goes by its place in the program's resources. No file states one yet.
+    Size {
+        to: Reg,
+        buffer: u32,
+    },
     /// Loads each part whose bit stands in `mask`.
     Load {
         to: u32,

@@ -1,3 +1,4 @@
 pub mod Simulation
 pub mod Budget
 pub mod SmallRuns
+pub mod EdgeRuns

@@ -1,6 +1,6 @@
 -- The small programs run as stated.
 use Rattle.std.proofs.Common.{refl}
-use Rattle.dxil_meaning.specs.Rows.{Arithmetic, ThreadNumbers, phi_swap, parting, two_sites, PhiSwapStores, PhiSwapIsBusy, LastWordIsLoaded, PastTheEndIsUndefined, MaskedStoreIsOne, ElementIsAtWord14, OffsetBetweenWordsIsUndefined, AtomicMinimum, UnsignedMinimum, SignedMinimum, GroupIsReleased, EndWhileWaitingIsUndefined, MissedBarrierIsUndefined, BarrierAtAnotherSiteIsUndefined, FewStepsAreBusy}
+use Rattle.dxil_meaning.specs.Rows.{Arithmetic, ThreadNumbers, phi_swap, parting, two_sites, PhiSwapStores, PhiSwapIsBusy, MaskedStoreIsOne, ElementIsAtWord14, OffsetBetweenWordsIsUndefined, AtomicMinimum, UnsignedMinimum, SignedMinimum, GroupIsReleased, EndWhileWaitingIsUndefined, MissedBarrierIsUndefined, BarrierAtAnotherSiteIsUndefined, FewStepsAreBusy}
 
 pub phi_swap_stores : PhiSwapStores
 unfolding phi_swap
@@ -9,12 +9,6 @@ phi_swap_stores = refl
 pub phi_swap_is_busy : PhiSwapIsBusy
 unfolding phi_swap
 phi_swap_is_busy = refl
-
-pub last_word_is_loaded : LastWordIsLoaded
-last_word_is_loaded = refl
-
-pub past_the_end_is_undefined : PastTheEndIsUndefined
-past_the_end_is_undefined = refl
 
 pub masked_store_is_one : MaskedStoreIsOne
 masked_store_is_one = refl

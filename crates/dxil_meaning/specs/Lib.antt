@@ -3,4 +3,5 @@ pub mod Launches
 pub mod Source
 pub mod Fits
 pub mod Rows
+pub mod Edges
 pub mod Steps

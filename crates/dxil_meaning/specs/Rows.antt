@@ -160,13 +160,6 @@ abbrev pub load_at : ℕ → Program
 load_at byte =
     program_of Raw 1 (straight (Load 10 1 (target.Buffer 0) (Byte (operand.Int byte)) ∷ []))
 
-abbrev pub LastWordIsLoaded : Type 0
-LastWordIsLoaded =
-    told (run_of (load_at 12) (launch_of 4) (filled 7) 1 (0 ∷ 0 ∷ [])) ≡ is_complete (loads 3 7 ∷ ends ∷ [])
-
-abbrev pub PastTheEndIsUndefined : Type 0
-PastTheEndIsUndefined = told (run_of (load_at 16) (launch_of 4) (filled 7) 1 (0 ∷ [])) ≡ is_undefined
-
 -- the values outside the mask are undef, and unread
 abbrev pub MaskedStoreIsOne : Type 0
 MaskedStoreIsOne =

@@ -1,7 +1,7 @@
 -- What a DXIL program does: the machine of one invocation, over the plain data of the program.
 --
--- Sources: the LLVM 3.7 Language Reference for arithmetic, shifts, divisions, compares, casts, selects, phis, branches and switches; DXIL.rst for thread numbers, the bits, minima and maxima, buffers, atomics and barriers. What is undefined there is a wrong step here.
-use Rattle.std.specs.Prelude.{ℕ, zero, suc, ◌+◌, ◌-◌, ◌*◌, ◌/◌, ◌%◌, ◌^◌, min, max, Bool, true, false, ◌&&◌, ◌||◌, not, List, [], ◌∷◌, map, Option, Some, None, nat_eq, nat_lt, nat_le, if◌then◌else◌, slice_get, slice_index, bit_and, bit_or, bit_xor, option_map, option_and_then, is_some}
+-- Sources: the LLVM 3.7 Language Reference for arithmetic, shifts, divisions, compares, casts, selects, phis, branches and switches; DXIL.rst for thread numbers, the bits, minima and maxima, buffers, atomics and barriers. What is undefined there is a wrong step here. An access out of range is defined: it gives 0, changes nothing and is no event.
+use Rattle.std.specs.Prelude.{ℕ, zero, suc, ◌+◌, ◌-◌, ◌*◌, ◌/◌, ◌%◌, ◌^◌, min, max, Bool, true, false, ◌&&◌, ◌||◌, not, List, [], ◌∷◌, map, Option, Some, None, nat_eq, nat_lt, nat_le, if◌then◌else◌, slice_get, slice_index, bit_and, bit_or, bit_xor, option_map, option_and_then}
 use Rattle.dxil_form.specs.declared.value.Ty.{Ty}
 use Rattle.dxil_form.specs.declared.value.Ty.TheVariants as ty
 use Rattle.dxil_form.specs.declared.value.Reg.{Reg}
@@ -23,8 +23,9 @@ use Rattle.dxil_form.specs.declared.instr.TwoOp.{TwoOp}
 use Rattle.dxil_form.specs.declared.instr.TwoOp.TheVariants.{IMax, IMin, UMax, UMin}
 use Rattle.dxil_form.specs.declared.instr.IdOp.{IdOp}
 use Rattle.dxil_form.specs.declared.instr.IdOp.TheVariants as id
+use Rattle.dxil_form.specs.declared.instr.AtomicOp.{AtomicOp}
 use Rattle.dxil_form.specs.declared.instr.Instr.{Instr}
-use Rattle.dxil_form.specs.declared.instr.Instr.TheVariants.{Bin, Cmp, Cast, Select, Copy, One, Two, Mad, Id, Load, Store, Atomic, Swap, Barrier, Nothing}
+use Rattle.dxil_form.specs.declared.instr.Instr.TheVariants.{Bin, Cmp, Cast, Select, Copy, One, Two, Mad, Id, Size, Load, Store, Atomic, Swap, Barrier, Nothing}
 use Rattle.dxil_form.specs.declared.block.Term.{Term}
 use Rattle.dxil_form.specs.declared.block.Term.TheVariants.{Ret, Unreachable, Go, If, Switch}
 use Rattle.dxil_form.specs.declared.block.Entry.{Entry}
@@ -201,7 +202,7 @@ if_in inside word = if inside then Some word else None
 abbrev pub Words : Type 0
 Words = ℕ → Option ℕ
 
--- The words of an access. There are none at all, and the access is undefined, where an operand of the address is undefined or the offset is no multiple of 4.
+-- The words of an access. There are none at all, and the access is undefined, where an operand of the address is undefined or the offset is no multiple of 4. Words are whole numbers, so nothing wraps.
 abbrev pub address : Program → Launch → Registers → Target → Addr → Option Words
 address p l regs to (Byte at) =
     option_and_then (λ at. if nat_eq (at % 4) 0 then Some (λ c. if_in (nat_lt (at / 4 + c) (words_of p l to)) (at / 4 + c)) else None) (number_of regs at)
@@ -222,12 +223,12 @@ place_of (target.Shared a) word = launch.Shared a word
 
 -- ---- states: block, place in it, registers and the block that ran before; the walk is kept by the launch
 
--- a place in a block: its phi group, the instruction or terminator of a number, or the parts of that instruction that are left
+-- a place in a block: its phi group, the instruction or terminator of a number, or the parts of that load or store that are left, each with its place where it is in range
 pub data Spot : Type 0 where
   Phis : Spot
   Line : ℕ → Spot
   Loading : ℕ → (to : ℕ) → List (ℕ × Option Place) → Spot
-  Storing : ℕ → List (Option Place × Option ℕ) → Spot
+  Storing : ℕ → List (Option Place × ℕ) → Spot
 
 pub record State : Type 0 where
   pub block : ℕ
@@ -249,7 +250,7 @@ abbrev pub enter : Program → ℕ → State → Step State
 enter p k s =
     Quiet (k ∷ []) (record { block = k; spot = first_spot (slice_get p.blocks k); regs = s.regs; previous = s.block })
 
--- ---- steps: a phi group, a quiet instruction, an event, or a terminator
+-- ---- steps: a phi group, a quiet instruction, an event, a part of a load or store that is out of range, or a terminator
 
 -- the value of a phi's entry for the block that ran before; an undef or unset entry gives none
 abbrev pub entry_value : Registers → ℕ → List Entry → Option Value
@@ -270,25 +271,44 @@ abbrev pub sets : ℕ → Reg → Option Value → State → Step State
 sets k to None s = Wrong
 sets k to (Some v) s = Quiet [] (at_line (suc k) (with_reg to.value to.part (Some v) s.regs) s)
 
--- the loads that are left
-abbrev pub loads : ℕ → ℕ → List (ℕ × Option Place) → State → State
-loads k to [] s = at_line (suc k) s.regs s
-loads k to (part ∷ left) s = record { block = s.block; spot = Loading k to (part ∷ left); regs = s.regs; previous = s.previous }
+-- a load goes on with these registers: to its parts that are left, or to the next line
+abbrev pub loads : ℕ → ℕ → List (ℕ × Option Place) → Registers → State → State
+loads k to [] regs s = at_line (suc k) regs s
+loads k to (part ∷ left) regs s = record { block = s.block; spot = Loading k to (part ∷ left); regs = regs; previous = s.previous }
 
+-- part c is loaded, or is out of range and 0
 abbrev pub load_step : ℕ → ℕ → List (ℕ × Option Place) → State → Step State
 load_step k to [] s = Quiet [] (at_line (suc k) s.regs s)
-load_step k to ((c, None) ∷ left) s = Wrong
+load_step k to ((c, None) ∷ left) s = Quiet [] (loads k to left (with_reg to c (Some (Number 0)) s.regs) s)
 load_step k to ((c, Some place) ∷ left) s =
-    Acts (launch.Load place) (λ v. loads k to left (record { block = s.block; spot = s.spot; regs = with_reg to c (Some (Number v)) s.regs; previous = s.previous }))
+    Acts (launch.Load place) (λ v. loads k to left (with_reg to c (Some (Number v)) s.regs) s)
 
-abbrev pub stores : ℕ → List (Option Place × Option ℕ) → State → State
+-- a store goes on: to its parts that are left, or to the next line
+abbrev pub stores : ℕ → List (Option Place × ℕ) → State → State
 stores k [] s = at_line (suc k) s.regs s
 stores k (part ∷ left) s = record { block = s.block; spot = Storing k (part ∷ left); regs = s.regs; previous = s.previous }
 
-abbrev pub store_step : ℕ → List (Option Place × Option ℕ) → State → Step State
+-- a part is stored, or is out of range and dropped
+abbrev pub store_step : ℕ → List (Option Place × ℕ) → State → Step State
 store_step k [] s = Quiet [] (at_line (suc k) s.regs s)
-store_step k ((Some place, Some v) ∷ left) s = Acts (launch.Store place v) (λ answer. stores k left s)
-store_step k ((_, _) ∷ left) s = Wrong
+store_step k ((None, v) ∷ left) s = Quiet [] (stores k left s)
+store_step k ((Some place, v) ∷ left) s = Acts (launch.Store place v) (λ answer. stores k left s)
+
+-- an atomic sets its register to the word that was there; out of range it sets it to 0
+abbrev pub atomic_step : ℕ → Reg → AtomicOp → Option Place → ℕ → State → Step State
+atomic_step k to op None v s = sets k to (Some (Number 0)) s
+atomic_step k to op (Some place) v s =
+    Acts (launch.Atomic place op v) (λ old. at_line (suc k) (with_reg to.value to.part (Some (Number old)) s.regs) s)
+
+-- a swap sets its part 0 to the word that was there, and its part 1 to whether that was equal
+abbrev pub swapped : ℕ → ℕ → ℕ → Bool → State → State
+swapped k to old equal s =
+    at_line (suc k) (with_reg to 1 (Some (Truth equal)) (with_reg to 0 (Some (Number old)) s.regs)) s
+
+-- out of range these are 0 and false
+abbrev pub swap_step : ℕ → ℕ → Option Place → (compare value : ℕ) → State → Step State
+swap_step k to None c v s = Quiet [] (swapped k to 0 false s)
+swap_step k to (Some place) c v s = Acts (launch.Swap place c v) (λ old. swapped k to old (nat_eq old c) s)
 
 -- goes on with a value, or is undefined
 abbrev pub given : {A : Type 0} → Option A → (A → Step State) → Step State
@@ -301,11 +321,12 @@ chosen regs None a b = None
 chosen regs (Some true) a b = value_of regs a
 chosen regs (Some false) a b = value_of regs b
 
-abbrev pub all_read : List (Option Place × Option ℕ) → Bool
-all_read [] = true
-all_read (part ∷ parts) = is_some part.1 && all_read parts
+-- the values of the parts of a store; none at all where one of them is undefined
+abbrev pub with_values : List (Option Place × Option ℕ) → Option (List (Option Place × ℕ))
+with_values [] = Some []
+with_values ((place, v) ∷ parts) = on_both (λ v parts. Some ((place, v) ∷ parts)) v (with_values parts)
 
--- one instruction, the k-th of its block
+-- One instruction, the k-th of its block. An access reads its address and all its values before its first part.
 abbrev pub instr_step : Program → Launch → ℕ → ℕ → Instr → State → Step State
 instr_step p l i k (Bin to op type a b) s = sets k to (bin_value op type (value_of s.regs a) (value_of s.regs b)) s
 instr_step p l i k (Cmp to op type a b) s = sets k to (cmp_value op type (value_of s.regs a) (value_of s.regs b)) s
@@ -318,6 +339,7 @@ instr_step p l i k (Two to op a b) s =
 instr_step p l i k (Mad to a b c) s =
     sets k to (on_both (λ xy z. Some (Number (word_add xy z))) (on_both (λ x y. Some (word_mul x y)) (number_of s.regs a) (number_of s.regs b)) (number_of s.regs c)) s
 instr_step p l i k (Id to op part) s = sets k to (Some (Number (id_of p l i op part))) s
+instr_step p l i k (Size to buffer) s = sets k to (Some (Number (words_of p l (target.Buffer buffer)))) s
 instr_step p l i k (Load to mask target addr) s =
     if is_empty (parts_of mask) then Quiet [] (at_line (suc k) s.regs s)
     else
@@ -325,22 +347,17 @@ instr_step p l i k (Load to mask target addr) s =
     load_step k to (map (λ c. (c, option_map (place_of target) (words c))) (parts_of mask)) s
 instr_step p l i k (Store mask target addr x y z w) s =
     given (address p l s.regs target addr) λ words.
-    store_all (map (λ c. (option_map (place_of target) (words c), number_of s.regs (pick c x y z w))) (parts_of mask))
-  where
-    -- all values of the mask are read before the first part
-    store_all : List (Option Place × Option ℕ) → Step State
-    store_all parts = if all_read parts then store_step k parts s else Wrong
+    given (with_values (map (λ c. (option_map (place_of target) (words c), number_of s.regs (pick c x y z w))) (parts_of mask))) λ parts.
+    store_step k parts s
 instr_step p l i k (Atomic to op target addr value) s =
     given (address p l s.regs target addr) λ words.
-    given (words 0) λ word.
     given (number_of s.regs value) λ v.
-    Acts (launch.Atomic (place_of target word) op v) (λ old. at_line (suc k) (with_reg to.value to.part (Some (Number old)) s.regs) s)
+    atomic_step k to op (option_map (place_of target) (words 0)) v s
 instr_step p l i k (Swap to target addr compare value) s =
     given (address p l s.regs target addr) λ words.
-    given (words 0) λ word.
     given (number_of s.regs compare) λ c.
     given (number_of s.regs value) λ v.
-    Acts (launch.Swap (place_of target word) c v) (λ old. at_line (suc k) (with_reg to 1 (Some (Truth (nat_eq old c))) (with_reg to 0 (Some (Number old)) s.regs)) s)
+    swap_step k to (option_map (place_of target) (words 0)) c v s
 instr_step p l i k (Barrier sync scope uav shared) s =
     Acts (launch.Barrier sync scope uav shared) (λ answer. at_line (suc k) s.regs s)
 instr_step p l i k Nothing s = Quiet [] (at_line (suc k) s.regs s)

@@ -5,4 +5,4 @@ mod launch;
 mod rows;
 
 pub use launch::fits_launch;
-pub use rows::worked_rows;
+pub use rows::{edge_rows, worked_rows};
