@@ -4,9 +4,9 @@ ghost use Rattle.dx_run.specs.Answers.{rule_name, word_rule_name, limit_name, re
 ghost use Rattle.dx_run.specs.Outputs.{IsOutput, IsListing, IsReport, IsFaultOutput};
 
 use crate::status::Status;
-use crate::translate::translate;
 use dx_base::{Bytes, Fault, List, Rule, Which, Words, bytes_of};
 use dx_show::show;
+use dx_translate::translate;
 use spirv_file::check_file;
 use spv_form::{CheckFault, WordRule};
 use std::alloc::{AllocError, Global};

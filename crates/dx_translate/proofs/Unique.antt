@@ -4,7 +4,6 @@ use Rattle.dx_base.specs.declared.fault.Fault.TheVariants.{Refused, Limit}
 use Rattle.dx_base.specs.declared.fault.Rule.{Rule}
 use Rattle.dx_base.specs.declared.fault.Rule.TheVariants.{NotYet}
 use Rattle.dx_base.specs.declared.fault.Which.{Which}
-use Rattle.dxbc_container.specs.declared.part.Parts.{Parts}
 use Rattle.bitstream_spelling.specs.declared.item.Item.{Item}
 use Rattle.dx_file.specs.Layers.{refused, limited}
 use Rattle.dx_file.proofs.Answering.{refusal_unique, content_unique, content_sound}

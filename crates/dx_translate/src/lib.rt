@@ -3,7 +3,7 @@
 //! The definitions stand in `specs/`: what the translator says of a file's bytes in `Verdicts.antt`, and the words of the module in `ModuleWords.antt`.
 #![tactic(auto)]
 
+mod layers;
 mod module_words;
-mod translate;
 
-pub use translate::translate;
+pub use layers::translate;

@@ -394,8 +394,6 @@ fn bodies_in(
 }
 
 /// The bodies of the module by number, or the first of the rules M7 to M11 that is broken or of the limits of a body that is passed, with its bit.
-///
-/// The time is linear in the number of items and fields.
 pub fn read_bodies(alloc: Heap, items: &Items, facts: &ModuleFacts) -> Result<BodyList, Fault>
     requires framed { IsFramed items.now.list items.now.fields }
     requires small { AreFew facts.now }

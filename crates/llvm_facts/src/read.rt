@@ -176,8 +176,6 @@ fn lookup_of<'a>(meta: &'a Meta, types: &'a Types, values: &'a GlobalList) -> Lo
 
 /// What the metadata of a module with these types and values say of its compute shader, or the first of the rules N5 to N9 that is broken: the one of least number,
 /// with the least of its bits.
-///
-/// The time is linear in the length of the lists and fields, but for the ids of rows, which are kept in order.
 pub fn shader_facts(
     alloc: Global,
     meta: &Meta,

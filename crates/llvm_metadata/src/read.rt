@@ -15,8 +15,6 @@ use llvm_types::Types;
 use std::alloc::Global;
 
 /// The metadata of a module with these types and records, which are those of the same items, or the first of the rules N1 to N4 that is broken, with its bit.
-///
-/// The time is linear in the number of items and fields.
 pub fn read_metadata(
     alloc: Global,
     items: &Items,
@@ -35,8 +33,6 @@ pub fn read_metadata(
 
 /// What the metadata of a module with these types and records say of its compute shader, or the first of the rules N5 to N9 that is broken: the one of least
 /// number, with the least of its bits.
-///
-/// The time is linear in the length of the lists and fields, but for the ids of rows, which are kept in order.
 pub fn shader_facts(
     alloc: Global,
     meta: &Meta,

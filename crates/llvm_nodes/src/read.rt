@@ -287,8 +287,6 @@ fn meta_in(
 }
 
 /// The metadata of a module with so many types and values, or the first of the rules N1 to N4 that is broken, with its bit.
-///
-/// The time is linear in the number of items and fields.
 pub fn read_nodes(alloc: Global, items: &Items, types: u32, values: u32) -> Result<Meta, Fault>
     requires { IsFramed items.now.list items.now.fields }
     ensures { MetaAnswer result items.now.list items.now.fields types values }

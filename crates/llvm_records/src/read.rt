@@ -61,8 +61,6 @@ fn first_fault(values: Fault, bodies: Result<BodyList, Fault>) -> Fault
 }
 
 /// The values and the bodies of the module, or the first of the rules M1 to M11 that is broken or of the limits of a body that is passed, with its bit. The types are those of the same items.
-///
-/// The time is linear in the number of items and fields.
 pub fn read_module_records(alloc: Heap, items: &Items, types: &Types) -> Result<Records, Fault>
     requires framed { IsFramed items.now.list items.now.fields }
     requires types { types.now.list ≡ types_of items.now.list items.now.fields }

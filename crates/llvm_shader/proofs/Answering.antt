@@ -1,7 +1,7 @@
 -- The answers of the readers of the layers, as that on the shader.
-use Rattle.std.proofs.Common.{ℕ, ◌≡◌, ◌∙◌, ◌<◌, ◌≤◌, ◌^◌, Some, refl, sym, ap, subst, arith, List, length, Result, Ok, Err}
+use Rattle.std.proofs.Common.{ℕ, ◌≡◌, ◌∙◌, ◌≤◌, refl, ap, subst, arith, List, length, Result, Ok, Err}
 use Rattle.std.proofs.lemmas.Bool.{ne_eqb}
-use Rattle.dx_base.specs.First.{IsFirst, IsSound}
+use Rattle.dx_base.specs.First.{IsSound}
 use Rattle.dx_base.specs.declared.fault.Fault.{Fault}
 use Rattle.dx_base.specs.declared.fault.Fault.TheVariants.{Refused, Limit, OutOfMemory}
 use Rattle.dx_base.specs.declared.fault.Rule.TheVariants.{C, B, Y, M, N, P, NotYet}
@@ -14,18 +14,16 @@ use Rattle.llvm_values.specs.Values.{values_of}
 use Rattle.llvm_values.specs.declared.global.Global.{Global}
 use Rattle.llvm_types.specs.Rules.{Broken as BreaksTypes}
 use Rattle.llvm_types.specs.Reading.{TypesAnswer}
-use Rattle.llvm_bodies.specs.Reading.{fault_of, Tells}
+use Rattle.llvm_bodies.specs.Reading.{fault_of}
 use Rattle.llvm_records.specs.declared.read.Records.{Records as AllRecords}
 use Rattle.llvm_records.specs.Reading.{RecordsAnswer, AreRecords, Broken as BreaksRecords}
 use Rattle.llvm_nodes.specs.Reading.{MetaAnswer}
-use Rattle.llvm_nodes.specs.Metadata.{IsMeta}
 use Rattle.llvm_nodes.specs.declared.item.Meta.{Meta}
 use Rattle.llvm_facts.specs.Facts.{FactsAnswer}
 use Rattle.llvm_facts.specs.Rules.{module_of}
 use Rattle.llvm_facts.specs.declared.facts.Facts.{Facts}
-use Rattle.llvm_shader.specs.Shader.{ShaderAnswer, FactsStand, IsFirstRefusal, AreSound, of_types, of_records, of_metadata, of_facts, BreaksMetadata, BreaksFacts, module_with}
+use Rattle.llvm_shader.specs.Shader.{ShaderAnswer, FactsStand, IsFirstRefusal, of_types, of_records, of_metadata, of_facts, BreaksFacts, module_with}
 use Rattle.llvm_shader.proofs.Uniqueness.{meta_unique}
-use Rattle.llvm_shader.specs.declared.read.Shader.{Shader}
 
 -- a rule by its number up to 11 is one of the module's records
 rule_fault : (rule bit : ℕ) → rule ≤ 11 → fault_of rule bit ≡ Refused (M rule) bit

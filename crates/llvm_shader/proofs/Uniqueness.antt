@@ -1,5 +1,5 @@
 -- A module states at most one shader, has at most one first refusal, and not both.
-use Rattle.std.proofs.Common.{ℕ, ◌≡◌, ◌∙◌, ◌<◌, ◌≤◌, inl, inr, refl, sym, ap, subst, arith, List, [], ◌∷◌, Option}
+use Rattle.std.proofs.Common.{ℕ, ◌≡◌, ◌∙◌, ◌≤◌, inl, inr, refl, sym, ap, subst, arith, List, [], ◌∷◌, Option}
 use Rattle.std.proofs.lemmas.Bool.{cases_lt}
 use Rattle.dx_base.proofs.FirstLaws.{first_unique}
 use Rattle.dx_base.specs.First.{IsFirst, IsSound}
@@ -7,12 +7,11 @@ use Rattle.dx_base.specs.declared.fault.Fault.{Fault}
 use Rattle.bitstream_spelling.specs.declared.item.Item.{Item}
 use Rattle.llvm_items.specs.Sites.{Site, sites, code_of, fields_of}
 use Rattle.llvm_layout.proofs.Unique.{only_reading}
-use Rattle.llvm_types.specs.Types.{types_of}
 use Rattle.llvm_types.specs.declared.kind.LlvmType.{LlvmType}
 use Rattle.llvm_values.specs.declared.global.Global.{Global}
 use Rattle.llvm_types.specs.Rules.{Broken as BreaksTypes}
 use Rattle.llvm_bodies.specs.Lists.{Each, none, more, Place}
-use Rattle.llvm_bodies.specs.Bodies.{IsLine, IsLineAt, IsBody, AreBodies, lines_in, known, around_of, ended}
+use Rattle.llvm_bodies.specs.Bodies.{IsLine, IsBody, AreBodies, lines_in, known, around_of, ended}
 use Rattle.llvm_bodies.specs.Reading.{fault_of}
 use Rattle.llvm_bodies.specs.declared.facts.ModuleFacts.{ModuleFacts}
 use Rattle.llvm_bodies.specs.declared.line.Line.{Line}

@@ -39,8 +39,6 @@ fn facts_of(alloc: Global, items: &Items, types: &Types, records: &Records) -> R
 
 /// The shader that the items of a module state.
 ///
-/// The time is linear in the number of items and fields, but for the ids of resources, which are sorted.
-///
 /// # Errors
 ///
 /// The first refusal of the layers in order: Y1 to Y4, M1 to M11 with the limits of a body, N1 to N4, N5 to N9. Each is asked only where nothing before it is broken. Of the first three the least bit counts, and at one bit the least number, limits last; of N5 to N9 the least number, and of its bits the least. Or want of memory.

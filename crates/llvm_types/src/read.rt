@@ -172,8 +172,6 @@ fn types_in(alloc: Global, list: &[Item], fields: &[u64]) -> Result<Types, Fault
 }
 
 /// The types of the module by number, or the first of the rules Y1 to Y4 that is broken, with its bit.
-///
-/// The time is linear in the number of items and fields.
 pub fn read_types(alloc: Global, items: &Items) -> Result<Types, Fault>
     requires { IsFramed items.now.list items.now.fields }
     ensures { TypesAnswer result items.now.list items.now.fields }

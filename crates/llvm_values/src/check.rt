@@ -64,8 +64,6 @@ fn check_items(alloc: Heap, list: &[Item], fields: &[u64], types: &Types) -> Res
 }
 
 /// Asks the module and its bodies the rules M1 to M6, and tells the first that is broken, with its bit; the types are those of the same items.
-///
-/// The time is linear in the number of items and fields.
 pub fn check_values(alloc: Heap, items: &Items, types: &Types) -> Result<(), Fault>
     requires framed { IsFramed items.now.list items.now.fields }
     requires types { types.now.list ≡ types_of items.now.list items.now.fields }

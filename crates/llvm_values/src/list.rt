@@ -133,8 +133,6 @@ fn values_in(
 /// The values of the module by number, whatever rule its records break (LLVM 3.7 bitcode file format, "MODULE_BLOCK Contents", "CONSTANTS_BLOCK Contents" and "VALUE_SYMTAB_BLOCK Contents").
 ///
 /// Variables, functions and constants of the module take numbers in record order. A function has the name of the first symbol of its number, wherever that stands.
-///
-/// The time is linear in the number of items and fields.
 pub fn list_values(alloc: Heap, items: &Items, types: &Types) -> Result<GlobalList, OutOfMemory>
     requires { IsFramed items.now.list items.now.fields }
     ensures exact { IfOk result (λ values. values ≡ values_of items.now.list items.now.fields types.now.list) }

@@ -1,4 +1,4 @@
-use Rattle.std.proofs.Common.{◌≡◌, ◌∙◌, ap, length}
+use Rattle.std.proofs.Common.{ap, length}
 use Rattle.llvm_shader.proofs.Answering.{metadata_refused, facts_told, same_values}
 use Rattle.llvm_shader.proofs.read.facts_of.Goals as goal
 

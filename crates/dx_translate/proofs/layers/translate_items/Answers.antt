@@ -1,5 +1,5 @@
 use Rattle.dx_translate.proofs.VerdictLaws.{shader_verdict, module_fault}
-use Rattle.dx_translate.proofs.translate.translate_items.Goals as goal
+use Rattle.dx_translate.proofs.layers.translate_items.Goals as goal
 
 pub returns-in-Ok : goal.returns-in-Ok
 returns-in-Ok c = shader_verdict _ _ _ _ c.in-Ok.ensures c.translate_shader.ensures

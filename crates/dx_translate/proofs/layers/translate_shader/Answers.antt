@@ -1,5 +1,5 @@
 use Rattle.dx_translate.proofs.VerdictLaws.{other_verdict, return_verdict}
-use Rattle.dx_translate.proofs.translate.translate_shader.Goals as goal
+use Rattle.dx_translate.proofs.layers.translate_shader.Goals as goal
 
 pub returns-in-Some : goal.returns-in-Some
 returns-in-Some c = other_verdict _ _ _ c.entry_lines.ensures c.in-Some.ensures
