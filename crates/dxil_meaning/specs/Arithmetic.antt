@@ -1,6 +1,6 @@
 -- Arithmetic on words of 32 bits, each below 2 ^ 32. A word is read with a sign, in two's complement, by `signed`.
 --
--- These are the operations of the LLVM 3.7 Language Reference on `i32` (add, sub, mul, shl, lshr, ashr, sdiv, srem, icmp), of DXIL.rst (Bfrev, Countbits, IMax, IMin), and of SPIR-V 1.6 on integers of 32 bits (3.52.13, 3.52.14, 3.52.18). Both machines are stated with them, each by a table of its own.
+-- These are the operations of the LLVM 3.7 Language Reference on `i32` (add, sub, mul, shl, lshr, ashr, sdiv, srem, icmp), of DXIL.rst (Bfrev, Countbits, IMax, IMin), and of SPIR-V 1.6 on integers of 32 bits (Arithmetic, Bit, Relational and Logical, and Atomic Instructions). Both machines are stated with them, each by a table of its own.
 use Rattle.std.specs.Prelude.{ℕ, ◌+◌, ◌-◌, ◌*◌, ◌/◌, ◌%◌, ◌^◌, min, max, Bool, ℤ, Option, Some, None, nat_eq, ◌&&◌, if◌then◌else◌, bit_and, bit_or, bit_xor, count_ones, int_lt, int_div, int_rem}
 use Rattle.std.specs.Int.{w32, cast_signed, cast_unsigned, reverse_bits, int_shr}
 use Rattle.dxil_form.specs.declared.instr.AtomicOp.{AtomicOp}

@@ -3,4 +3,5 @@ pub mod Numbers
 mod Searching
 mod Texts
 pub mod Sites
+mod BindingsFit
 mod SmallRuns

@@ -1,8 +1,8 @@
 -- The small modules run as stated.
-use Rattle.std.proofs.Common.{refl}
+use Rattle.std.proofs.Common.{nat_eq, slice_index, refl, ap, true≢false}
 use Rattle.dxil_meaning.specs.Rows.{phi_swap}
-use Rattle.spirv_meaning.specs.Empty.{empty_program, empty_module}
-use Rattle.spirv_meaning.specs.Rows.{declarations, module_of, swap_module, SwapStores, SwapIsBusy, SwapBeginsBlocks, LabelIsSite, EmptyShaderEnds, EmptyShaderIsBusy, EmptyShaderBeginsBlock, GroupNumberIsStored, LastWordIsLoaded, PastTheEndIsUndefined, RowIsFourWords, SharedWordIsStored, AtomicMinimum, SignedMinimum, AtomicOfAnotherScopeIsUndefined, ControlBarrierSyncs, MemoryBarrierDoesNot, BarrierOfNobody, ArmsOfTwoKindsAreUndefined, ArmWithoutValueIsUndefined, ChosenArmIsStored, DivisionByZeroIsUndefined, LengthIsStored}
+use Rattle.spirv_meaning.specs.Empty.{empty_program, empty_module, lonely_module}
+use Rattle.spirv_meaning.specs.Rows.{declarations, module_of, swap_module, SwapStores, SwapIsBusy, SwapBeginsBlocks, LabelIsSite, LocalSizeIsTheModules, OtherLocalSizeIsNotSame, PlainBindingsAreTheFormula, BindingsNameTheResource, NoBindingIsUndefined, StoreToAnInputIsUndefined, EmptyShaderEnds, EmptyShaderIsBusy, EmptyShaderBeginsBlock, GroupNumberIsStored, LastWordIsLoaded, PastTheEndIsUndefined, RowIsFourWords, SharedWordIsStored, AtomicMinimum, SignedMinimum, AtomicOfAnotherScopeIsUndefined, ControlBarrierSyncs, MemoryBarrierDoesNot, BarrierOfNobody, ArmsOfTwoKindsAreUndefined, ArmWithoutValueIsUndefined, ChosenArmIsStored, DivisionByZeroIsUndefined, LengthIsStored}
 
 pub label_is_site : LabelIsSite
 unfolding empty_program empty_module
@@ -19,6 +19,29 @@ empty_shader_is_busy = refl
 pub empty_shader_begins_block : EmptyShaderBeginsBlock
 unfolding empty_program empty_module
 empty_shader_begins_block = refl
+
+pub local_size_is_the_modules : LocalSizeIsTheModules
+unfolding lonely_module
+local_size_is_the_modules = refl
+
+pub other_local_size_is_not_same : OtherLocalSizeIsNotSame
+unfolding empty_program lonely_module
+other_local_size_is_not_same same = true≢false (ap (λ local. nat_eq (slice_index local 0) 1) same.local)
+
+pub plain_bindings_are_the_formula : PlainBindingsAreTheFormula
+plain_bindings_are_the_formula = refl
+
+pub bindings_name_the_resource : BindingsNameTheResource
+unfolding module_of declarations
+bindings_name_the_resource = refl
+
+pub no_binding_is_undefined : NoBindingIsUndefined
+unfolding module_of declarations
+no_binding_is_undefined = refl
+
+pub store_to_an_input_is_undefined : StoreToAnInputIsUndefined
+unfolding module_of declarations
+store_to_an_input_is_undefined = refl
 
 pub group_number_is_stored : GroupNumberIsStored
 unfolding module_of declarations

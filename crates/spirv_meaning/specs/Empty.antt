@@ -19,9 +19,9 @@ empty_program =
       blocks = record { phis = []; instrs = []; term = Ret } ∷ [];
     }
 
--- the function is the instruction at place 7, and its one label, named b0, the one at place 8
-unfoldable pub empty_module : Module
-empty_module =
+-- the module of the empty shader in groups of this size: the function is the instruction at place 7, and its one label, named b0, the one at place 8
+abbrev pub empty_module_of : (x y z : ℕ) → Module
+empty_module_of x y z =
     record {
       version = 0x10600;
       bound = 5;
@@ -29,16 +29,23 @@ empty_module =
           inst 17 (1 ∷ []) ∷
           inst 14 (0 ∷ 1 ∷ []) ∷
           inst 15 (5 ∷ 1 ∷ 0x6E69616D ∷ 0 ∷ []) ∷
-          inst 16 (1 ∷ 17 ∷ 8 ∷ 4 ∷ 1 ∷ []) ∷
+          inst 16 (1 ∷ 17 ∷ x ∷ y ∷ z ∷ []) ∷
           inst 5 (4 ∷ 0x3062 ∷ []) ∷
           inst 19 (2 ∷ []) ∷
           inst 33 (3 ∷ 2 ∷ []) ∷ inst 54 (2 ∷ 1 ∷ 0 ∷ 3 ∷ []) ∷ inst 248 (4 ∷ []) ∷ inst 253 [] ∷ inst 56 [] ∷ [];
     }
 
+unfoldable pub empty_module : Module
+empty_module = empty_module_of 8 4 1
+
+-- the same in groups of one invocation
+unfoldable pub lonely_module : Module
+lonely_module = empty_module_of 1 1 1
+
 -- where the module stands after its label
 abbrev pub at_return : Launch → TargetState
 at_return l =
-    record { at = 9; results = λ id. None; locals = (target empty_module empty_program l).start.locals }
+    record { at = 9; results = λ id. None; locals = (target empty_module [] l).start.locals }
 
 -- both stand before the return
 pub record BeforeReturn (l : Launch) (i : ℕ) (s : SourceState) (t : TargetState) : Type 0 where

@@ -1,5 +1,6 @@
 pub mod Names
 pub mod Sought
+pub mod Bindings
 pub mod Target
 pub mod Same
 pub mod Empty

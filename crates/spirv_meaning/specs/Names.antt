@@ -4,7 +4,7 @@ use Rattle.std.specs.List.{list_any}
 use Rattle.spv_form.specs.declared.module.Inst.{Inst}
 use Rattle.spv_form.specs.declared.module.Module.{Module}
 
--- the words of a string (SPIR-V 1.6, 2.2.1): four bytes in each, the least significant first, with a zero byte and a fill of zeros
+-- the words of a string (SPIR-V 1.6, Literal, under Instructions): four bytes in each, the least significant first, with a zero byte and a fill of zeros
 abbrev pub text_words : List ℕ → List ℕ
 text_words [] = 0 ∷ []
 text_words (a ∷ []) = a ∷ []

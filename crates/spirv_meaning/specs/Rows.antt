@@ -2,9 +2,10 @@
 use Rattle.std.specs.Prelude.{◌≡◌, ℕ, ◌+◌, List, [], ◌∷◌, ◌++◌, Some, None, true, false}
 use Rattle.dxil_form.specs.declared.instr.AtomicOp.TheVariants.{UMin, SMin}
 use Rattle.dxil_form.specs.declared.instr.Scope.TheVariants.{Nobody, Group, Device}
-use Rattle.dxil_form.specs.declared.program.Class.TheVariants.{Uav, Cbv}
-use Rattle.dxil_form.specs.declared.program.Kind.TheVariants.{Raw, Constant}
-use Rattle.dxil_form.specs.declared.program.Program.{Program}
+use Rattle.dxil_form.specs.declared.program.Class.{Class}
+use Rattle.dxil_form.specs.declared.program.Class.TheVariants.{Srv, Uav, Cbv}
+use Rattle.dxil_form.specs.declared.program.Kind.TheVariants.{Raw}
+use Rattle.dxil_form.specs.declared.program.Resource.{Resource}
 use Rattle.spv_form.specs.declared.module.Inst.{Inst}
 use Rattle.spv_form.specs.declared.module.Module.{Module}
 use Rattle.dxil_meaning.specs.Launches as launch
@@ -12,9 +13,10 @@ use Rattle.dxil_meaning.specs.Launches.{Event, Outcome, Complete, Ran}
 use Rattle.dxil_meaning.specs.Source.{Launch}
 use Rattle.dxil_meaning.specs.Rows.{Told, is_undefined, is_busy, is_complete, told, event, event_at, stores, loads, ends, filled, run_of, phi_swap, launch_of}
 use Rattle.spirv_meaning.specs.Names.{site}
+use Rattle.spirv_meaning.specs.Bindings.{Bindings, plain_bindings}
 use Rattle.spirv_meaning.specs.Target.{State}
-use Rattle.spirv_meaning.specs.Same.{target_run}
-use Rattle.spirv_meaning.specs.Empty.{inst, empty_program, empty_module}
+use Rattle.spirv_meaning.specs.Same.{Same, target_run}
+use Rattle.spirv_meaning.specs.Empty.{inst, empty_program, empty_module, lonely_module}
 
 -- the blocks that an invocation began, the newest first
 abbrev pub walk_of : {S : Type 0} → ℕ → Outcome (Ran S) → List ℕ
@@ -34,27 +36,44 @@ LabelIsSite = (site empty_module 0 ≡ Some 8) × (site empty_module 1 ≡ None)
 -- the function, the label and the return are three steps
 abbrev pub EmptyShaderEnds : Type 0
 EmptyShaderEnds =
-    told (target_run empty_program empty_module two_groups (filled 0) (40 ∷ 40 ∷ []) 3) ≡ is_complete (ends ∷ None ∷ [])
+    told (target_run empty_module [] two_groups (filled 0) (40 ∷ 40 ∷ []) 3) ≡ is_complete (ends ∷ None ∷ [])
 
 abbrev pub EmptyShaderIsBusy : Type 0
 EmptyShaderIsBusy =
-    told (target_run empty_program empty_module two_groups (filled 0) (40 ∷ []) 2) ≡ is_busy
+    told (target_run empty_module [] two_groups (filled 0) (40 ∷ []) 2) ≡ is_busy
 
 abbrev pub EmptyShaderBeginsBlock : Type 0
 EmptyShaderBeginsBlock =
-    walk_of 40 (target_run empty_program empty_module two_groups (filled 0) (40 ∷ []) 3) ≡ 0 ∷ []
+    walk_of 40 (target_run empty_module [] two_groups (filled 0) (40 ∷ []) 3) ≡ 0 ∷ []
 
--- ---- one block over three memories
+-- the groups of a run are those of the module's own LocalSize: where that is 1, 1, 1, two groups have no invocation 40
+abbrev pub LocalSizeIsTheModules : Type 0
+LocalSizeIsTheModules =
+    told (target_run lonely_module [] two_groups (filled 0) (1 ∷ 40 ∷ []) 3) ≡ is_complete (ends ∷ None ∷ [])
 
--- a raw buffer of 4 words, a constant buffer of two rows, and a groupshared array of 4 words
-abbrev pub three_memories : Program
-three_memories =
-    record {
-      local = 1 ∷ 1 ∷ 1 ∷ [];
-      resources = record { class = Uav; id = 0; space = 0; lower = 0; kind = Raw } ∷ record { class = Cbv; id = 0; space = 0; lower = 0; kind = Constant 2 } ∷ [];
-      shared = 4 ∷ [];
-      blocks = [];
-    }
+-- a module of another LocalSize is not the same as the program
+abbrev pub OtherLocalSizeIsNotSame : Type 0
+OtherLocalSizeIsNotSame = Same empty_program [] lonely_module → ⊥
+
+-- ---- bindings
+
+abbrev pub resource_of : Class → (space lower : ℕ) → Resource
+resource_of class space lower =
+    record { class = class; id = 0; space = space; lower = lower; kind = Raw }
+
+-- in space 2 and at lower bound 3 the bindings are 9 of an SRV, 10 of a UAV and 11 of a constant buffer
+abbrev pub PlainBindingsAreTheFormula : Type 0
+PlainBindingsAreTheFormula =
+    plain_bindings (record { local = []; resources = resource_of Srv 2 3 ∷ resource_of Uav 2 3 ∷ resource_of Cbv 2 3 ∷ []; shared = []; blocks = [] }) ≡ (2, 9) ∷ (2, 10) ∷ (2, 11) ∷ []
+
+-- ---- one block over three memories: a raw buffer of 4 words, a constant buffer of two rows, and a groupshared array of 4 words
+
+-- the buffer is the first resource, and the constant buffer the second
+abbrev pub in_order : Bindings
+in_order = (0, 1) ∷ (0, 2) ∷ []
+
+abbrev pub swapped : Bindings
+swapped = (0, 2) ∷ (0, 1) ∷ []
 
 abbrev pub three_groups : Launch
 three_groups = record { groups = 3 ∷ 1 ∷ 1 ∷ []; sizes = 4 ∷ 8 ∷ [] }
@@ -103,10 +122,12 @@ module_of body =
           declarations ++ (inst 54 (2 ∷ 1 ∷ 0 ∷ 3 ∷ []) ∷ inst 248 (20 ∷ []) ∷ body) ++ (inst 253 [] ∷ inst 56 [] ∷ []);
     }
 
--- how the first entry of invocation 1 goes, in memory that is filled with 9; the body's n-th step is step n + 2
+-- how the first entry of invocation 1 goes, in memory that is filled with 9, by these bindings; the body's n-th step is step n + 2
+abbrev pub entry_by : Bindings → List Inst → ℕ → Told
+entry_by at body n = told (target_run (module_of body) at three_groups (filled 9) (1 ∷ []) (2 + n))
+
 abbrev pub entry_of : List Inst → ℕ → Told
-entry_of body n =
-    told (target_run three_memories (module_of body) three_groups (filled 9) (1 ∷ []) (2 + n))
+entry_of body n = entry_by in_order body n
 
 -- a pointer to the buffer's word of this constant
 abbrev pub word_pointer : ℕ → ℕ → Inst
@@ -125,10 +146,24 @@ LastWordIsLoaded =
 abbrev pub PastTheEndIsUndefined : Type 0
 PastTheEndIsUndefined = entry_of (word_pointer 60 34 ∷ inst 61 (4 ∷ 61 ∷ 60 ∷ []) ∷ []) 2 ≡ is_undefined
 
+-- by the other bindings the variable stands for the second resource, and by none for no memory
+abbrev pub BindingsNameTheResource : Type 0
+BindingsNameTheResource =
+    entry_by swapped (word_pointer 60 33 ∷ inst 61 (4 ∷ 61 ∷ 60 ∷ []) ∷ []) 2 ≡ is_complete (event (launch.Load (launch.Buffer 1 3)) 9 ∷ [])
+
+abbrev pub NoBindingIsUndefined : Type 0
+NoBindingIsUndefined =
+    entry_by ((1, 1) ∷ (0, 2) ∷ []) (word_pointer 60 33 ∷ inst 61 (4 ∷ 61 ∷ 60 ∷ []) ∷ []) 2 ≡ is_undefined
+
 -- component 2 of the second row of a constant buffer is its word 6
 abbrev pub RowIsFourWords : Type 0
 RowIsFourWords =
     entry_of (inst 65 (15 ∷ 60 ∷ 40 ∷ 30 ∷ 31 ∷ 32 ∷ []) ∷ inst 61 (4 ∷ 61 ∷ 60 ∷ []) ∷ []) 2 ≡ is_complete (event (launch.Load (launch.Buffer 1 6)) 9 ∷ [])
+
+-- an input is only read
+abbrev pub StoreToAnInputIsUndefined : Type 0
+StoreToAnInputIsUndefined =
+    entry_of (inst 65 (4 ∷ 60 ∷ 42 ∷ 30 ∷ []) ∷ inst 62 (60 ∷ 33 ∷ []) ∷ []) 2 ≡ is_undefined
 
 abbrev pub SharedWordIsStored : Type 0
 SharedWordIsStored =
@@ -195,7 +230,7 @@ swap_module =
     }
 
 abbrev pub swap_run : ℕ → Outcome (Ran State)
-swap_run n = target_run three_memories swap_module three_groups (filled 9) (1 ∷ 1 ∷ 1 ∷ []) n
+swap_run n = target_run swap_module in_order three_groups (filled 9) (1 ∷ 1 ∷ 1 ∷ []) n
 
 -- the first entry takes 54 steps to its store, where the program takes 14
 abbrev pub SwapStores : Type 0

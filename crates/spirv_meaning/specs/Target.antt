@@ -1,15 +1,11 @@
 -- What a SPIR-V module does: the machine of one invocation, over the decoded instructions.
 --
--- Source: SPIR-V 1.6, by the sections of each instruction in 3.52. A form that is not listed here is a wrong step.
+-- Source: SPIR-V 1.6, by the name of each instruction, decoration, storage class, built-in and scope. A form that is not listed here is a wrong step.
 use Rattle.std.specs.Prelude.{ℕ, zero, suc, ◌+◌, ◌*◌, ◌/◌, ◌%◌, Bool, true, false, ◌&&◌, ◌||◌, not, List, [], ◌∷◌, ◌++◌, drop, Option, Some, None, nat_eq, nat_lt, nat_le, if◌then◌else◌, slice_get, slice_index, bit_and, bit_or, bit_xor, option_map, option_and_then}
 use Rattle.dxil_form.specs.declared.instr.AtomicOp.{AtomicOp}
 use Rattle.dxil_form.specs.declared.instr.AtomicOp.TheVariants as atomic
 use Rattle.dxil_form.specs.declared.instr.Scope.{Scope}
 use Rattle.dxil_form.specs.declared.instr.Scope.TheVariants.{Nobody, Group, Device}
-use Rattle.dxil_form.specs.declared.program.Class.{Class}
-use Rattle.dxil_form.specs.declared.program.Class.TheVariants.{Srv, Uav, Cbv}
-use Rattle.dxil_form.specs.declared.program.Resource.{Resource}
-use Rattle.dxil_form.specs.declared.program.Program.{Program}
 use Rattle.spv_form.specs.declared.module.Inst.{Inst}
 use Rattle.spv_form.specs.declared.module.Module.{Module}
 use Rattle.dxil_meaning.specs.Arithmetic.{word_add, word_sub, word_mul, word_shl, word_shr, word_sar, word_sdiv, word_srem, signed_lt, word_reverse, word_count, is_overflowing, unless}
@@ -17,6 +13,7 @@ use Rattle.dxil_meaning.specs.Source.{Launch, coordinate, product}
 use Rattle.dxil_meaning.specs.Launches as launch
 use Rattle.dxil_meaning.specs.Launches.{Step, Wrong, Quiet, Acts, Machine, Place, End}
 use Rattle.spirv_meaning.specs.Names.{is_some_at, label_of, begun_at}
+use Rattle.spirv_meaning.specs.Bindings.{Bindings, resource_at}
 
 -- ---- values
 
@@ -90,27 +87,14 @@ decoration (i ∷ is) id kind =
     if nat_eq i.opcode 71 && is_some_at (slice_get i.operands 0) id && is_some_at (slice_get i.operands 1) kind
     then slice_get i.operands 2 else decoration is id kind
 
--- ---- which memory of the program a variable stands for
+-- ---- which memory a variable stands for
 
--- the class in the number of a binding
-abbrev pub class_number : Class → ℕ
-class_number Srv = 0
-class_number Uav = 1
-class_number Cbv = 2
-
--- the resource whose space is the set, and for which 3 * lower + class is the binding
-abbrev pub resource_at : List Resource → ℕ → ℕ → ℕ → Option ℕ
-resource_at [] set binding r = None
-resource_at (resource ∷ rest) set binding r =
-    if nat_eq resource.space set && nat_eq (3 * resource.lower + class_number resource.class) binding then Some r
-    else resource_at rest set binding (suc r)
-
--- the resource that a buffer variable stands for, by its DescriptorSet and its Binding
-abbrev pub buffer_of : Module → Program → ℕ → Option ℕ
-buffer_of m p variable = at_both (decoration m.insts variable 34) (decoration m.insts variable 33)
+-- the resource that a buffer variable stands for: the one that has its DescriptorSet and its Binding
+abbrev pub buffer_of : Module → Bindings → ℕ → Option ℕ
+buffer_of m at variable = at_both (decoration m.insts variable 34) (decoration m.insts variable 33)
   where
     at_both : Option ℕ → Option ℕ → Option ℕ
-    at_both (Some set) (Some binding) = resource_at p.resources set binding 0
+    at_both (Some set) (Some binding) = resource_at at set binding 0
     at_both _ _ = None
 
 -- the number of a Workgroup variable in word order
@@ -171,14 +155,14 @@ abbrev pub in_buffer : Launch → Option ℕ → Option ℕ → Option Place
 in_buffer l (Some r) (Some word) = option_map (launch.Buffer r) (if_below word (slice_index l.sizes r))
 in_buffer l _ _ = None
 
-abbrev pub buffer_place : Module → Program → Launch → ℕ → Bool → List ℕ → Option Place
-buffer_place m p l variable vectors indices = in_buffer l (buffer_of m p variable) (buffer_word vectors indices)
+abbrev pub buffer_place : Module → Bindings → Launch → ℕ → Bool → List ℕ → Option Place
+buffer_place m at l variable vectors indices = in_buffer l (buffer_of m at variable) (buffer_word vectors indices)
 
-abbrev pub place_of : Module → Program → Launch → ℕ → List ℕ → Option Place
-place_of m p l variable indices =
-    if is_some_at (storage m variable) 12 then (if over_vectors m variable then None else buffer_place m p l variable false indices)
+abbrev pub place_of : Module → Bindings → Launch → ℕ → List ℕ → Option Place
+place_of m at l variable indices =
+    if is_some_at (storage m variable) 12 then (if over_vectors m variable then None else buffer_place m at l variable false indices)
     else
-    (if is_some_at (storage m variable) 2 then buffer_place m p l variable (over_vectors m variable) indices
+    (if is_some_at (storage m variable) 2 then buffer_place m at l variable (over_vectors m variable) indices
     else
     (if is_some_at (storage m variable) 4 then in_shared (shared_number m.insts variable 0) (shared_word indices)
     else None))
@@ -334,17 +318,17 @@ local_value s variable [] = s.locals variable
 local_value s variable (i ∷ is) = None
 
 -- a load: of a Function variable or an input it is quiet, of other memory it is an event
-abbrev pub load_step : Module → Program → Launch → ℕ → ℕ → ℕ → Option Value → State → Step State
-load_step m p l i type id (Some (Pointer variable indices)) s =
+abbrev pub load_step : Module → Bindings → Launch → ℕ → ℕ → ℕ → Option Value → State → Step State
+load_step m at l i type id (Some (Pointer variable indices)) s =
     if is_class m variable 7 then gives id (local_value s variable indices) s
     else
     (if is_class m variable 1 then gives id (input_value m l i variable indices) s
     else
     (if is_integer m type
     then
-    given (place_of m p l variable indices) (λ place. Acts (launch.Load place) (λ v. record { at = suc s.at; results = with_value id (Some (Word v)) s.results; locals = s.locals }))
+    given (place_of m at l variable indices) (λ place. Acts (launch.Load place) (λ v. record { at = suc s.at; results = with_value id (Some (Word v)) s.results; locals = s.locals }))
     else Wrong))
-load_step m p l i type id _ s = Wrong
+load_step m at l i type id _ s = Wrong
 
 -- a Function variable takes a value of the type that its pointer goes to
 abbrev pub local_store : Module → ℕ → List ℕ → Value → State → Step State
@@ -355,13 +339,13 @@ local_store m variable [] v s =
 local_store m variable (i ∷ is) v s = Wrong
 
 -- a store: to a Function variable it is quiet, to other memory it is an event
-abbrev pub store_step : Module → Program → Launch → Option Value → Option Value → State → Step State
-store_step m p l (Some (Pointer variable indices)) (Some v) s =
+abbrev pub store_step : Module → Bindings → Launch → Option Value → Option Value → State → Step State
+store_step m at l (Some (Pointer variable indices)) (Some v) s =
     if is_class m variable 7 then local_store m variable indices v s
     else
-    given (place_of m p l variable indices) λ place.
+    given (place_of m at l variable indices) λ place.
     given (as_word (Some v)) λ x. Acts (launch.Store place x) (λ answer. next s)
-store_step m p l _ _ s = Wrong
+store_step m at l _ _ s = Wrong
 
 -- the scope that an atomic has: Device on a buffer, Workgroup on Workgroup memory, and semantics 0
 abbrev pub fits_scope : Place → Option ℕ → Bool
@@ -369,23 +353,23 @@ fits_scope (launch.Buffer r word) scope = is_some_at scope 1
 fits_scope (launch.Shared a word) scope = is_some_at scope 2
 
 -- the place that a pointer names
-abbrev pub pointer_place : Module → Program → Launch → Option Value → Option Place
-pointer_place m p l (Some (Pointer variable indices)) = place_of m p l variable indices
-pointer_place m p l _ = None
+abbrev pub pointer_place : Module → Bindings → Launch → Option Value → Option Place
+pointer_place m at l (Some (Pointer variable indices)) = place_of m at l variable indices
+pointer_place m at l _ = None
 
 -- an atomic is an event, and its result is the word that was there
-abbrev pub atomic_step : Module → Program → Launch → AtomicOp → ℕ → (pointer scope semantics value : Option Value) → State → Step State
-atomic_step m p l op id pointer scope semantics value s =
-    given (pointer_place m p l pointer) λ place.
+abbrev pub atomic_step : Module → Bindings → Launch → AtomicOp → ℕ → (pointer scope semantics value : Option Value) → State → Step State
+atomic_step m at l op id pointer scope semantics value s =
+    given (pointer_place m at l pointer) λ place.
     given (as_word value) λ v.
     if fits_scope place (as_word scope) && is_some_at (as_word semantics) 0
     then Acts (launch.Atomic place op v) (λ old. record { at = suc s.at; results = with_value id (Some (Word old)) s.results; locals = s.locals })
     else Wrong
 
 -- AtomicCompareExchange: both semantics are 0
-abbrev pub swap_step : Module → Program → Launch → ℕ → (pointer scope equal unequal value compare : Option Value) → State → Step State
-swap_step m p l id pointer scope equal unequal value compare s =
-    given (pointer_place m p l pointer) λ place.
+abbrev pub swap_step : Module → Bindings → Launch → ℕ → (pointer scope equal unequal value compare : Option Value) → State → Step State
+swap_step m at l id pointer scope equal unequal value compare s =
+    given (pointer_place m at l pointer) λ place.
     given (as_word value) λ v.
     given (as_word compare) λ c.
     if fits_scope place (as_word scope) && is_some_at (as_word equal) 0 && is_some_at (as_word unequal) 0
@@ -425,12 +409,12 @@ chain (Some (Pointer variable indices)) (Some more) = Some (Pointer variable (in
 chain _ _ = None
 
 -- the number of words of a StorageBuffer variable over integers
-abbrev pub length_of : Module → Program → Launch → Option Value → Option Value
-length_of m p l (Some (Pointer variable [])) =
+abbrev pub length_of : Module → Bindings → Launch → Option Value → Option Value
+length_of m at l (Some (Pointer variable [])) =
     if is_some_at (storage m variable) 12 && not (over_vectors m variable)
-    then option_map (λ r. Word (slice_index l.sizes r)) (buffer_of m p variable)
+    then option_map (λ r. Word (slice_index l.sizes r)) (buffer_of m at variable)
     else None
-length_of m p l _ = None
+length_of m at l _ = None
 
 abbrev pub extracted : Option Value → ℕ → Option Value
 extracted (Some (Vector xs)) c = option_map Word (slice_get xs c)
@@ -490,35 +474,35 @@ kind_of opcode = or_two (lookup opcode kind_table) (lookup opcode two_table) (lo
     or_two None None None = None
 
 -- one instruction of a kind with these operands. A form that is not listed is undefined
-abbrev pub act : Module → Program → Launch → ℕ → Kind → List ℕ → State → Step State
-act m p l i Passes operands s = Quiet [] (next s)
-act m p l i Label_begins (label ∷ []) s = Quiet (begun_at m s.at) (next s)
-act m p l i Loads (type ∷ id ∷ pointer ∷ []) s = load_step m p l i type id (value_of m s pointer) s
-act m p l i Stores (pointer ∷ v ∷ []) s = store_step m p l (value_of m s pointer) (value_of m s v) s
-act m p l i Chains (type ∷ id ∷ base ∷ indices) s = gives id (chain (value_of m s base) (words_at m s indices)) s
-act m p l i Lengths (type ∷ id ∷ base ∷ zero ∷ []) s = gives id (length_of m p l (value_of m s base)) s
-act m p l i Extracts (type ∷ id ∷ a ∷ c ∷ []) s = gives id (extracted (value_of m s a) c) s
-act m p l i Chooses (type ∷ id ∷ c ∷ a ∷ b ∷ []) s =
+abbrev pub act : Module → Bindings → Launch → ℕ → Kind → List ℕ → State → Step State
+act m at l i Passes operands s = Quiet [] (next s)
+act m at l i Label_begins (label ∷ []) s = Quiet (begun_at m s.at) (next s)
+act m at l i Loads (type ∷ id ∷ pointer ∷ []) s = load_step m at l i type id (value_of m s pointer) s
+act m at l i Stores (pointer ∷ v ∷ []) s = store_step m at l (value_of m s pointer) (value_of m s v) s
+act m at l i Chains (type ∷ id ∷ base ∷ indices) s = gives id (chain (value_of m s base) (words_at m s indices)) s
+act m at l i Lengths (type ∷ id ∷ base ∷ zero ∷ []) s = gives id (length_of m at l (value_of m s base)) s
+act m at l i Extracts (type ∷ id ∷ a ∷ c ∷ []) s = gives id (extracted (value_of m s a) c) s
+act m at l i Chooses (type ∷ id ∷ c ∷ a ∷ b ∷ []) s =
     gives id (selected (value_of m s c) (value_of m s a) (value_of m s b)) s
-act m p l i (One_operand f) (type ∷ id ∷ a ∷ []) s = gives id (f (value_of m s a)) s
-act m p l i (Two_operands f) (type ∷ id ∷ a ∷ b ∷ []) s = gives id (f (value_of m s a) (value_of m s b)) s
-act m p l i (Atomics op) (type ∷ id ∷ pointer ∷ scope ∷ semantics ∷ v ∷ []) s =
-    atomic_step m p l op id (value_of m s pointer) (value_of m s scope) (value_of m s semantics) (value_of m s v) s
-act m p l i Swaps (type ∷ id ∷ pointer ∷ scope ∷ equal ∷ unequal ∷ v ∷ c ∷ []) s =
-    swap_step m p l id (value_of m s pointer) (value_of m s scope) (value_of m s equal) (value_of m s unequal) (value_of m s v) (value_of m s c) s
-act m p l i (Fences true) (execution ∷ scope ∷ semantics ∷ []) s =
+act m at l i (One_operand f) (type ∷ id ∷ a ∷ []) s = gives id (f (value_of m s a)) s
+act m at l i (Two_operands f) (type ∷ id ∷ a ∷ b ∷ []) s = gives id (f (value_of m s a) (value_of m s b)) s
+act m at l i (Atomics op) (type ∷ id ∷ pointer ∷ scope ∷ semantics ∷ v ∷ []) s =
+    atomic_step m at l op id (value_of m s pointer) (value_of m s scope) (value_of m s semantics) (value_of m s v) s
+act m at l i Swaps (type ∷ id ∷ pointer ∷ scope ∷ equal ∷ unequal ∷ v ∷ c ∷ []) s =
+    swap_step m at l id (value_of m s pointer) (value_of m s scope) (value_of m s equal) (value_of m s unequal) (value_of m s v) (value_of m s c) s
+act m at l i (Fences true) (execution ∷ scope ∷ semantics ∷ []) s =
     if is_some_at (word_of m s execution) 2 then barrier_step true (word_of m s scope) (word_of m s semantics) s else Wrong
-act m p l i (Fences false) (scope ∷ semantics ∷ []) s = barrier_step false (word_of m s scope) (word_of m s semantics) s
-act m p l i Branches (label ∷ []) s = branch m label s
-act m p l i Branches_if (c ∷ there ∷ other ∷ []) s =
+act m at l i (Fences false) (scope ∷ semantics ∷ []) s = barrier_step false (word_of m s scope) (word_of m s semantics) s
+act m at l i Branches (label ∷ []) s = branch m label s
+act m at l i Branches_if (c ∷ there ∷ other ∷ []) s =
     given (as_truth (value_of m s c)) λ b. branch m (if b then there else other) s
-act m p l i Switches (v ∷ default ∷ cases) s = given (word_of m s v) λ x. branch m (case_of x cases default) s
-act m p l i Returns [] s = Acts End (λ answer. s)
-act m p l i _ operands s = Wrong
+act m at l i Switches (v ∷ default ∷ cases) s = given (word_of m s v) λ x. branch m (case_of x cases default) s
+act m at l i Returns [] s = Acts End (λ answer. s)
+act m at l i _ operands s = Wrong
 
-abbrev pub inst_step : Module → Program → Launch → ℕ → Option Inst → State → Step State
-inst_step m p l i None s = Wrong
-inst_step m p l i (Some inst) s = given (kind_of inst.opcode) λ kind. act m p l i kind inst.operands s
+abbrev pub inst_step : Module → Bindings → Launch → ℕ → Option Inst → State → Step State
+inst_step m at l i None s = Wrong
+inst_step m at l i (Some inst) s = given (kind_of inst.opcode) λ kind. act m at l i kind inst.operands s
 
 -- the place of the first instruction of this opcode
 abbrev pub first_of : ℕ → List Inst → ℕ
@@ -529,11 +513,11 @@ first_of opcode (i ∷ is) = if nat_eq i.opcode opcode then 0 else suc (first_of
 abbrev pub initial : Module → ℕ → Option Value
 initial m variable = option_and_then (λ id. fixed_value (declared m.insts id) id) (declared_operand m 59 3 variable)
 
--- the machine of a module, for a program and a launch
-abbrev pub target : Module → Program → Launch → Machine State
-target m p l =
+-- the machine of a module in a launch, for resources of these sets and bindings; the program that it is to be compared with is no part of it
+abbrev pub target : Module → Bindings → Launch → Machine State
+target m at l =
     record {
       start = record { at = first_of 54 m.insts; results = λ id. None; locals = initial m };
       first = [];
-      step = λ i s. inst_step m p l i (slice_get m.insts s.at) s;
+      step = λ i s. inst_step m at l i (slice_get m.insts s.at) s;
     }

@@ -1,6 +1,6 @@
-ghost use Rattle.spirv_meaning.specs.Rows.{ArmWithoutValueIsUndefined, ArmsOfTwoKindsAreUndefined, AtomicMinimum, AtomicOfAnotherScopeIsUndefined, BarrierOfNobody, ChosenArmIsStored, ControlBarrierSyncs, DivisionByZeroIsUndefined, EmptyShaderBeginsBlock, EmptyShaderEnds, EmptyShaderIsBusy, GroupNumberIsStored, LabelIsSite, LastWordIsLoaded, LengthIsStored, MemoryBarrierDoesNot, PastTheEndIsUndefined, RowIsFourWords, SharedWordIsStored, SignedMinimum, SwapBeginsBlocks, SwapIsBusy, SwapStores};
+ghost use Rattle.spirv_meaning.specs.Rows.{ArmWithoutValueIsUndefined, ArmsOfTwoKindsAreUndefined, AtomicMinimum, AtomicOfAnotherScopeIsUndefined, BarrierOfNobody, BindingsNameTheResource, ChosenArmIsStored, ControlBarrierSyncs, DivisionByZeroIsUndefined, EmptyShaderBeginsBlock, EmptyShaderEnds, EmptyShaderIsBusy, GroupNumberIsStored, LabelIsSite, LastWordIsLoaded, LengthIsStored, LocalSizeIsTheModules, MemoryBarrierDoesNot, NoBindingIsUndefined, OtherLocalSizeIsNotSame, PastTheEndIsUndefined, PlainBindingsAreTheFormula, RowIsFourWords, SharedWordIsStored, SignedMinimum, StoreToAnInputIsUndefined, SwapBeginsBlocks, SwapIsBusy, SwapStores};
 
-/// What small modules do, by the definitions: the empty shader, accesses of each kind of memory, barriers, selects, divisions, and the swap of two phis.
+/// What small modules do, by the definitions: the empty shader, groups of another size, bindings, accesses of each kind of memory, barriers, selects, divisions, and the swap of two phis.
 ///
 /// The function does nothing: it is a theorem, which its contract states.
 pub fn worked_rows()
@@ -8,10 +8,16 @@ pub fn worked_rows()
     ensures empty_shader_ends { EmptyShaderEnds }
     ensures empty_shader_is_busy { EmptyShaderIsBusy }
     ensures empty_shader_begins_block { EmptyShaderBeginsBlock }
+    ensures local_size_is_the_modules { LocalSizeIsTheModules }
+    ensures other_local_size_is_not_same { OtherLocalSizeIsNotSame }
+    ensures plain_bindings_are_the_formula { PlainBindingsAreTheFormula }
     ensures group_number_is_stored { GroupNumberIsStored }
     ensures last_word_is_loaded { LastWordIsLoaded }
     ensures past_the_end_is_undefined { PastTheEndIsUndefined }
+    ensures bindings_name_the_resource { BindingsNameTheResource }
+    ensures no_binding_is_undefined { NoBindingIsUndefined }
     ensures row_is_four_words { RowIsFourWords }
+    ensures store_to_an_input_is_undefined { StoreToAnInputIsUndefined }
     ensures shared_word_is_stored { SharedWordIsStored }
     ensures atomic_minimum { AtomicMinimum }
     ensures signed_minimum { SignedMinimum }
