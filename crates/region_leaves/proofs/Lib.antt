@@ -1,0 +1,3 @@
+pub mod Branching
+pub mod Marking
+pub mod Reaching
