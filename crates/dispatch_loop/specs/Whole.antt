@@ -1,14 +1,9 @@
 -- One dispatch over all blocks of a program.
-use Rattle.std.specs.Prelude.{◌≡◌, ℕ, suc, List, [], ◌∷◌}
+use Rattle.std.specs.Prelude.{◌≡◌, ℕ, List}
 use Rattle.dxil_form.specs.declared.program.Program.{Program}
 use Rattle.dxil_form.specs.declared.region.Region.{Region}
 use Rattle.region_laws.specs.Roots.{closed}
-use Rattle.region_leaves.specs.Leaves.{AreReachable, leaves_of}
-
--- each block with its place in the list of leaves, from a place on
-abbrev pub placed_from : ℕ → List ℕ → List (ℕ × ℕ)
-placed_from i [] = []
-placed_from i (b ∷ blocks) = (b, i) ∷ placed_from (suc i) blocks
+use Rattle.region_leaves.specs.Leaves.{AreReachable, leaves_of, placed_from}
 
 -- a leaf for each reachable block, and behind them, where there are several, one dispatch over them
 pub record IsOneDispatch (p : Program) (list : List Region) : Type 0 where

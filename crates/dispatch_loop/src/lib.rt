@@ -1,16 +1,16 @@
 //! The last step over regions: one dispatch where several roots are left.
 #![tactic(auto)]
 
-ghost use Rattle.std.specs.Prelude.{◌≡◌, ◌<◌, ◌^◌, length, map, IfOk};
+ghost use Rattle.std.specs.Prelude.{◌≡◌, map, IfOk};
 ghost use Rattle.dxil_form.specs.Sound.{Sound};
 ghost use Rattle.dxil_form.specs.Wired.{Wired};
 ghost use Rattle.region_laws.specs.Roots.{closed};
 ghost use Rattle.region_laws.specs.Paths.{PassesAll};
-ghost use Rattle.dispatch_loop.specs.Whole.{placed_from, IsOneDispatch};
+ghost use Rattle.dispatch_loop.specs.Whole.{IsOneDispatch};
 
 use dx_base::{Cases, List, Numbers, OutOfMemory};
 use dxil_form::{Program, Region, RegionList, Regions};
-use region_leaves::{leaves, reachable};
+use region_leaves::{leaf_roots, leaves, reachable};
 use std::alloc::Global;
 
 /// The places of the roots.
@@ -37,20 +37,6 @@ fn close(alloc: Global, mut list: RegionList, roots: &Cases) -> Result<Regions, 
         }
     }
     Ok(Regions { list })
-}
-
-/// Pairs of each block and its place.
-fn leaf_roots(alloc: Global, blocks: &[u32]) -> Result<Cases, OutOfMemory>
-    requires { length blocks.now < 2 ^ 32 }
-    ensures { IfOk result (λ roots. roots ≡ placed_from 0 blocks.now) }
-{
-    let mut roots: Cases = List::new(alloc);
-    for i in 0..blocks.len() {
-        if roots.push((blocks[i], i as u32)).is_err() {
-            return Err(OutOfMemory);
-        }
-    }
-    Ok(roots)
 }
 
 /// One dispatch over a leaf for each reachable block, or the leaf alone where only one is reachable. The time is linear in the blocks and the branches.

@@ -1,20 +1,19 @@
 -- Regions under several roots are one tree once a dispatch stands over the roots.
-use Rattle.std.proofs.Common.{◌≡◌, ◌≢◌, ◌⊎◌, inl, inr, ℕ, zero, suc, ◌+◌, ◌-◌, ◌*◌, ◌<◌, ◌≤◌, true, false, cond, ltb, List, [], ◌∷◌, ◌++◌, length, map, Option, Some, None, refl, sym, ap, subst, ◌∙◌, arith, length-append}
-use Rattle.std.proofs.lemmas.Bool.{cases_Bool, cases_eq, ltb-true, ltb-false, cond-true, cond-false}
+use Rattle.std.proofs.Common.{◌≡◌, ◌⊎◌, inl, inr, ℕ, zero, suc, ◌+◌, ◌-◌, ◌<◌, ◌≤◌, ltb, List, [], ◌∷◌, ◌++◌, length, map, Some, refl, sym, ap, subst, ◌∙◌, arith, length-append}
+use Rattle.std.proofs.lemmas.Bool.{cases_Bool, ltb-false, cond-true, cond-false}
 use Rattle.std.proofs.lemmas.Option.{slice_get_within, slice_get-map, some_pair_parts}
 use Rattle.std.specs.List.{slice_get, Contains}
 use Rattle.std.specs.Option.{option_map}
 use Rattle.dxil_form.specs.declared.program.Program.{Program}
 use Rattle.dxil_form.specs.declared.region.Region.{Region}
 use Rattle.dxil_form.specs.declared.region.Region.TheVariants.{Leaf, Then, Loop, Dispatch, Arms}
-use Rattle.dxil_form.specs.Branches.{branches}
 use Rattle.dxil_form.specs.Walks.{EnteredBy}
 use Rattle.dxil_form.specs.Walks.EnteredBy.{by_start}
 use Rattle.dxil_form.specs.Wired.{IsPart, MayWant, Wired, parts}
 use Rattle.dxil_form.specs.Wired.MayWant.{leaf_wants, first_wants, second_wants, body_wants, source_wants, arm_wants, choice_wants}
-use Rattle.region_laws.specs.Roots.{HasRoot, WiredRoots, closed}
+use Rattle.region_laws.specs.Roots.{HasRoot, WiredRoots}
 use Rattle.region_laws.specs.Laws.{NoReturn, ClosedIsWired}
-use Rattle.region_laws.proofs.Places.{front, last, cases_last, inside, same_place, has_get, get_has}
+use Rattle.region_laws.proofs.Places.{front, last, cases_last, same_place, has_get, get_has}
 use Rattle.region_laws.proofs.Growing.{may_branch, enter_up, enter_down, want_down, entered_once}
 
 -- the places of the roots

@@ -1,16 +1,14 @@
 -- What is true of regions stays true where one region more is put behind them.
-use Rattle.std.proofs.Common.{◌≡◌, ◌≢◌, ◌⊎◌, inl, inr, ℕ, suc, ◌<◌, ◌≤◌, true, List, [], ◌∷◌, ◌++◌, length, map, Option, Some, None, refl, sym, ap, subst, ◌∙◌, arith}
+use Rattle.std.proofs.Common.{◌≡◌, ℕ, suc, ◌<◌, true, List, [], ◌∷◌, ◌++◌, length, Some, refl, ap, subst, ◌∙◌, arith}
 use Rattle.std.proofs.lemmas.Option.{slice_get_within, slice_get-map}
 use Rattle.std.specs.List.{slice_get, Contains}
 use Rattle.std.specs.Option.{option_map}
 use Rattle.dxil_form.specs.declared.program.Program.{Program}
 use Rattle.dxil_form.specs.declared.region.Region.{Region}
-use Rattle.dxil_form.specs.declared.region.Region.TheVariants.{Leaf, Then, Loop, Dispatch, Arms}
+use Rattle.dxil_form.specs.declared.region.Region.TheVariants.{Then, Loop, Dispatch, Arms}
 use Rattle.dxil_form.specs.Branches.{branches}
-use Rattle.dxil_form.specs.Walks.{EnteredBy, Goes, Passes, NoArm}
+use Rattle.dxil_form.specs.Walks.{EnteredBy}
 use Rattle.dxil_form.specs.Walks.EnteredBy.{by_block, by_head, by_first, by_source, by_start}
-use Rattle.dxil_form.specs.Walks.Goes.{leaf_wants, leaf_ends, then_leaves, then_goes_on, loop_leaves, loop_repeats, arms_leave, arms_go_on, dispatch_goes}
-use Rattle.dxil_form.specs.Walks.Passes.{nothing, leaf_passes, then_first, then_second, loop_first, loop_again, arms_first, arms_second, dispatch_passes}
 use Rattle.dxil_form.specs.Wired.{IsPart, MayWant, parts}
 use Rattle.dxil_form.specs.Wired.MayWant.{leaf_wants as leaf_may, first_wants, second_wants, body_wants, source_wants, arm_wants, choice_wants}
 use Rattle.region_laws.proofs.Places.{front, inside, get_has, same_place}
@@ -76,7 +74,7 @@ module _ (list : List Region) (later : Later list) where
       want_up (arm_wants h c m) = arm_wants (front list (x ∷ []) _ _ h) c (want_up m)
       want_up (choice_wants {r = r} {arms = arms} h c m n) = choice_wants (front list (x ∷ []) _ _ h) c (want_up m)
           (λ d i e. (let l : d < r = choice_before r d arms h i in
-              let w : r < length list = slice_get_within list r _ h in n d i (enter_down (omega arith) e)))
+          let w : r < length list = slice_get_within list r _ h in n d i (enter_down (omega arith) e)))
 
       pub want_down : {r k : ℕ} → r < length list → MayWant p (list ++ x ∷ []) r k → MayWant p list r k
       want_down l (leaf_may h t) = leaf_may (inside list x _ _ l h) t

@@ -5,7 +5,7 @@ use Rattle.dxil_form.specs.declared.region.Region.{Region}
 use Rattle.dxil_form.specs.Branches.{branches}
 use Rattle.dxil_form.specs.Wired.{Wired}
 use Rattle.region_laws.specs.Roots.{WiredRoots, closed}
-use Rattle.region_laws.specs.Paths.{RootsPass, PassesAll}
+use Rattle.region_laws.specs.Paths.{RootsPassUpToRoots, PassesAll}
 
 -- no block branches to block 0
 abbrev pub NoReturn : Program → Type 0
@@ -19,4 +19,4 @@ ClosedIsWired =
 -- and it passes exactly the paths from block 0
 abbrev pub ClosedPassesAll : Type 0
 ClosedPassesAll =
-    (p : Program) (list : List Region) (roots : List (ℕ × ℕ)) → NoReturn p → WiredRoots p list roots → RootsPass p list roots → PassesAll p (closed list roots)
+    (p : Program) (list : List Region) (roots : List (ℕ × ℕ)) → NoReturn p → WiredRoots p list roots → RootsPassUpToRoots p list roots → PassesAll p (closed list roots)

@@ -34,6 +34,16 @@ enters_other roots b c = enters_root roots c && not (eqb c b)
 abbrev pub RootsPass : Program → List Region → List (ℕ × ℕ) → Type 0
 RootsPass p list roots = (b r : ℕ) → HasRoot roots b r → PassesUpTo p list r b (enters_other roots b)
 
+-- root r passes exactly the paths from its block that meet no block which enters another root, and it may stop at its own block or go on there
+pub record PassesUpToRoots (p : Program) (list : List Region) (roots : List (ℕ × ℕ)) (b r : ℕ) : Type 0 where
+  pub stops : ℕ → Bool
+  pub all : (c : ℕ) → enters_other roots b c ≡ true → stops c ≡ true
+  pub only : (c : ℕ) → stops c ≡ true → enters_root roots c ≡ true
+  pub passes : PassesUpTo p list r b stops
+
+abbrev pub RootsPassUpToRoots : Program → List Region → List (ℕ × ℕ) → Type 0
+RootsPassUpToRoots p list roots = (b r : ℕ) → HasRoot roots b r → PassesUpToRoots p list roots b r
+
 abbrev pub nowhere : ℕ → Bool
 nowhere b = false
 

@@ -1,14 +1,13 @@
 -- The marked blocks are those that paths from block 0 reach.
-use Rattle.std.proofs.Common.{◌≡◌, ◌⊎◌, ◌↔◌, inl, inr, ℕ, zero, suc, ◌<◌, ◌≤◌, Bool, true, false, List, [], ◌∷◌, length, get_or, set, Option, Some, None, refl, sym, ap, subst, ◌∙◌, arith}
+use Rattle.std.proofs.Common.{◌≡◌, ◌⊎◌, inl, inr, ℕ, ◌<◌, Bool, true, false, List, [], ◌∷◌, length, get_or, set, None, sym, subst, ◌∙◌, arith}
 use Rattle.std.proofs.lemmas.Bool.{cases_eq}
-use Rattle.std.proofs.lemmas.Grind.{common_steps}
 use Rattle.std.proofs.lemmas.List.{get_or_default, get_or-set_same, get_or-set_other}
 use Rattle.std.specs.List.{Contains}
 use Rattle.dxil_form.specs.declared.program.Program.{Program}
 use Rattle.dxil_form.specs.Graphs.{Graph, Path, Leads, Reached}
-use Rattle.dxil_form.specs.Branches.{branches, declared_graph}
+use Rattle.dxil_form.specs.Branches.{declared_graph}
 use Rattle.dxil_form.specs.Sound.{Sound}
-use Rattle.flow_graph.specs.Given.{given, states}
+use Rattle.flow_graph.specs.Given.{given}
 use Rattle.flow_graph.specs.Walked.{MarksReached}
 use Rattle.region_leaves.specs.Leaves.{AreReachable}
 use Rattle.region_leaves.specs.Edges.{AreMarked, MarksFromStart, edges_on}

@@ -5,10 +5,10 @@ ghost use Rattle.std.specs.Prelude.{◌≡◌, ◌<◌, ◌≤◌, ◌^◌, ◌+
 ghost use Rattle.dxil_form.specs.Sound.{Sound};
 ghost use Rattle.dxil_form.specs.Branches.{targets};
 ghost use Rattle.flow_graph.specs.Given.{Within, given};
-ghost use Rattle.region_leaves.specs.Leaves.{AreReachable, leaves_of};
+ghost use Rattle.region_leaves.specs.Leaves.{AreReachable, leaves_of, placed_from};
 ghost use Rattle.region_leaves.specs.Edges.{edges_to, edges_on, AreMarked, MarksFromStart};
 
-use dx_base::{List, Numbers, OutOfMemory};
+use dx_base::{Cases, List, Numbers, OutOfMemory};
 use dxil_form::{Block, Program, Region, RegionList, Term};
 use flow_graph::{Edge, Graph, MAX_EDGES, MAX_NODES};
 use std::alloc::Global;
@@ -127,4 +127,18 @@ pub fn leaves(alloc: Global, blocks: &[u32]) -> Result<RegionList, OutOfMemory>
         }
     }
     Ok(list)
+}
+
+/// Each block with its place in the list of leaves.
+pub fn leaf_roots(alloc: Global, blocks: &[u32]) -> Result<Cases, OutOfMemory>
+    requires { length blocks.now < 2 ^ 32 }
+    ensures { IfOk result (λ roots. roots ≡ placed_from 0 blocks.now) }
+{
+    let mut roots: Cases = List::new(alloc);
+    for i in 0..blocks.len() {
+        if roots.push((blocks[i], i as u32)).is_err() {
+            return Err(OutOfMemory);
+        }
+    }
+    Ok(roots)
 }

@@ -1,6 +1,5 @@
-use Rattle.std.proofs.Common.{◌≡◌, ◌<◌, ◌≤◌, ℕ, Bool, true, List, length, set, subst, sym, ap, refl, arith, ◌∙◌}
+use Rattle.std.proofs.Common.{◌≡◌, ℕ, Bool, List, length, subst, sym, arith, ◌∙◌}
 use Rattle.std.proofs.lemmas.Result.{IfOk-weaker}
-use Rattle.dxil_form.specs.Graphs.{Graph}
 use Rattle.flow_graph.specs.declared.linked.Edge.{Edge}
 use Rattle.flow_graph.specs.Given.{given}
 use Rattle.region_leaves.specs.Leaves.{AreReachable}

@@ -1,4 +1,4 @@
-use Rattle.std.proofs.Common.{◌≡◌, ◌<◌, ℕ, Bool, true, List, length, set, subst, sym, refl, arith, ◌∙◌}
+use Rattle.std.proofs.Common.{◌≡◌, ◌<◌, true, length, set, subst, arith}
 use Rattle.std.proofs.lemmas.List.{with_items_is}
 use Rattle.flow_graph.specs.Shapes.{plain}
 use Rattle.flow_graph.specs.Given.{given}
