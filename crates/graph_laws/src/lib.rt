@@ -2,8 +2,8 @@
 //!
 //! The functions do nothing: each is a theorem, which its contract states. The statements stand in `specs/Laws.antt`, in the words of `dxil_form`.
 //! A node that has an edge to itself may be folded, and a node other than the entry that has a sole predecessor may be absorbed by it.
-//! Together the laws say that rewriting as far as possible leaves one node exactly where no ring has two entrances.
-//! Where rewriting keeps an order, each fold makes the loop of one head, over exactly the nodes that its rings pass.
+//! Each law speaks of one step: a rewrite keeps whether some ring has two entrances, a graph on which none applies has such a ring or one node, and a rewrite keeps
+//! which nodes the rings of each head pass.
 #![tactic(auto)]
 
 ghost use Rattle.graph_laws.specs.Laws.{FoldKeepsCrossed, AbsorbKeepsCrossed, StuckIsCrossed, FoldKeepsReached, AbsorbKeepsReached, StepOrCrossed, FoldKeepsHeads, AbsorbKeepsHeads, FoldEndsHead, HeadsByWalks};

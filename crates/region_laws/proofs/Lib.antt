@@ -1,0 +1,6 @@
+pub mod Places
+pub mod Growing
+pub mod Closing
+pub mod Walking
+pub mod Runs
+pub mod Turning
