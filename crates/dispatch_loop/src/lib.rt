@@ -39,7 +39,7 @@ fn close(alloc: Global, mut list: RegionList, roots: &Cases) -> Result<Regions, 
     Ok(Regions { list })
 }
 
-/// One dispatch over a leaf for each reachable block, or the leaf alone where only one is reachable. The time is linear in the blocks and the branches.
+/// One dispatch over a leaf for each reachable block, or the leaf alone where only one is reachable.
 pub fn all(alloc: Global, p: &Program) -> Result<Regions, OutOfMemory>
     requires { Sound p.now }
     ensures exact { IfOk result (λ regions. IsOneDispatch p.now regions.list) }

@@ -6,7 +6,7 @@ ghost use Rattle.flow_graph.specs.Links.{IsLast, IsAbove, leaves, enters, cell_a
 ghost use Rattle.flow_graph.specs.Changes.{SameButFrom, SameButTo, Without, Relabelled, Ended, Between, Merged};
 ghost use Rattle.flow_graph.specs.Walked.{marked};
 
-use crate::walks::{clear, mark_targets};
+use crate::walks::{mark_targets, unmark_targets};
 
 /// An edge, with the next edge of its source and the next edge of its target.
 #[derive(Clone, Copy, Drop)]
@@ -261,6 +261,7 @@ pub(crate) fn merge(
     requires j { j < length first_from.old }
     requires apart { a ≢ j }
     requires nodes { length marks.old ≡ length first_to.old }
+    requires clean { (b : ℕ) → marked marks.old b ≡ false }
     requires sole { (x : ℕ) → Joining cells.old x j → x ≡ a }
     requires sound { Sound cells.old first_from.old first_to.old }
     ensures sound { Sound cells.new first_from.new first_to.new }
@@ -270,7 +271,7 @@ pub(crate) fn merge(
     end_edge(cells, first_from, first_to, a, j);
     mark_targets(cells, first_from, marks, a);
     take_over(cells, first_from, first_to, marks, a, j);
-    clear(marks);
+    unmark_targets(cells, first_from, marks, a);
 }
 
 /// The node from which all edges to `j` come, if it is another than `j`.

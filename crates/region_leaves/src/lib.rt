@@ -106,7 +106,7 @@ fn marked(alloc: Global, marks: &[bool]) -> Result<Numbers, OutOfMemory>
     Ok(numbers)
 }
 
-/// The blocks that paths from block 0 reach, by rising number, in time that is linear in the blocks and the branches.
+/// The blocks that paths from block 0 reach, by rising number.
 pub fn reachable(alloc: Global, p: &Program) -> Result<Numbers, OutOfMemory>
     requires { Sound p.now }
     ensures { IfOk result (λ blocks. AreReachable p.now blocks) }
