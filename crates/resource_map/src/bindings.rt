@@ -22,7 +22,7 @@ pub type Bindings = List<Binding>;
 
 /// The binding of each resource by the formula: the set is its register space, and the binding is three times its lower bound and the number of its class.
 ///
-/// No two have the same set and binding. It is linear in the resources.
+/// No two have the same set and binding.
 pub fn map_resources(alloc: Global, p: &Program) -> Result<Bindings, OutOfMemory>
     requires { Sound p.now }
     ensures numbered { IfOk result IsNumbered }
