@@ -576,7 +576,7 @@ fn flow_fault(tables: &Tables, blocks: &[BasicBlock]) -> Option<Fault>
 
 /// Checks the blocks of a function against the structure rules (SPIR-V 1.6, sections 2.11 and 2.16.1).
 ///
-/// The blocks name each other by their numbers, and their words rise. The time is n log n in the blocks, their targets and merge instructions, and the memory is linear.
+/// The blocks name each other by their numbers, and their words rise.
 /// The answer is the broken rule of the least word, and there of the least number.
 pub fn check_flow(alloc: Global, blocks: &[BasicBlock]) -> Result<(), CheckFault>
     requires small { length blocks.now < 2 ^ 32 }

@@ -188,7 +188,7 @@ fn lows(alloc: Global, blocks: &[BasicBlock]) -> Result<RangeMax, OutOfMemory>
     Ok(table)
 }
 
-/// The table in less memory: most of its numbers are those of the block before.
+/// The table as runs, since most of its numbers are those of the block before.
 fn kept(alloc: Global, table: Vec<u32>) -> Result<Runs, OutOfMemory>
     requires { length table.items < 2 ^ 32 }
     ensures { IfOk result (λ runs. runs ≡ table.items) }
@@ -197,7 +197,7 @@ fn kept(alloc: Global, table: Vec<u32>) -> Result<Runs, OutOfMemory>
 }
 
 impl Tables {
-    /// Makes the tables of these blocks, in n log n time and linear memory.
+    /// Makes the tables of these blocks.
     pub fn new(alloc: Global, blocks: &[BasicBlock]) -> Result<Tables, OutOfMemory>
         requires small { length blocks.now < 2 ^ 32 }
         requires numbered { IsNumbered blocks.now }

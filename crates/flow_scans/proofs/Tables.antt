@@ -130,6 +130,7 @@ pub first_end_of : (spans : List Span) (gap count : ℕ) (near : List ℕ) (q fo
     → FirstBehind near gap q found → IsFirstEnd spans gap count q found
 first_end_of spans gap count near q found below small len are inside z = record {
   behind = z.behind;
+  within = omega (arith, z.within, len);
   attained = λ within.
       let early : get_or near found 0 + gap ≤ q = z.early (omega arith) in
       (get_or near found 0, (are found within).attained (omega arith), early);

@@ -27,9 +27,10 @@ AreLeastFirsts spans count table = (e : ℕ) → e < count → IsLeastFirst span
 abbrev pub AreGreatestEnds : List Span → ℕ → List ℕ → Type 0
 AreGreatestEnds spans count table = (f : ℕ) → f < count → IsGreatestEnd spans f (slice_index table f)
 
--- Of the spans that begin at least so far before q and end behind q, the least end. It is the count or more where there is none.
+-- Of the spans that begin at least so far before q and end behind q, the least end, or the count where there is none.
 pub record IsFirstEnd (spans : List Span) (gap count q found : ℕ) : Type 0 where
   pub behind : q < found
+  pub within : found ≤ count
   pub attained : found < count → (f : ℕ) × Has spans f found × (f + gap ≤ q)
   pub least : (f e : ℕ) → Has spans f e → f + gap ≤ q → q < e → found ≤ e
 

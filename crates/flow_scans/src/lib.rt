@@ -1,4 +1,4 @@
-//! Scans over spans of blocks: for each block the last span that lies over it and the least end of one, in time that is linear in the spans and the blocks. Beside them the greatest numbers of ranges, and lists of numbers kept as runs.
+//! Scans over spans of blocks: for each block the last span that lies over it and the least end of one. Beside them the greatest numbers of ranges, and lists of numbers kept as runs.
 #![tactic(auto)]
 
 mod range;

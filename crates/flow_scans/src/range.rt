@@ -99,7 +99,7 @@ fn chunk_at(values: &[u32], levels: &[Level], place: usize, to: usize) -> Chunk
 }
 
 impl RangeMax {
-    /// Makes the table of these numbers, in linear time and with a fifteenth more memory than theirs.
+    /// Makes the table of these numbers.
     pub fn new(alloc: Global, values: Vec<u32>) -> Result<RangeMax, OutOfMemory>
         requires { length values.items < 2 ^ 32 }
         ensures { IfOk result (λ r. r ≡ values.items) }
@@ -118,7 +118,7 @@ impl RangeMax {
         Ok(RangeMax { values, levels })
     }
 
-    /// Tells whether a number in the range `from..to` is above the bound, in logarithmic time.
+    /// Tells whether a number in the range `from..to` is above the bound.
     pub fn exceeds(&self, from: usize, to: usize, bound: u32) -> bool
         requires { to ≤ length self.now }
         ensures { IsTrue result ↔ Exceeds self.now from to bound }

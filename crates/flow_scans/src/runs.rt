@@ -16,7 +16,7 @@ pub struct Run {
 
 const _: () = prove!(size_of::<Run>() == 8);
 
-/// A list of numbers that takes memory only where a number differs from the one before. Contracts see the numbers.
+/// A list of numbers, kept as the runs of equal ones. Contracts see the numbers.
 #[derive(Debug, Drop)]
 pub struct Runs {
     runs: Vec<Run>,
@@ -53,7 +53,7 @@ fn run_count(numbers: &[u32]) -> usize {
 }
 
 impl Runs {
-    /// Keeps these numbers, in linear time.
+    /// Keeps these numbers.
     pub fn of(alloc: Global, numbers: &[u32]) -> Result<Runs, OutOfMemory>
         requires { length numbers.now < 2 ^ 32 }
         ensures { IfOk result (λ runs. runs ≡ numbers.now) }
@@ -86,7 +86,7 @@ impl Runs {
         self.count
     }
 
-    /// The number at a place, in time that is logarithmic in the runs.
+    /// The number at a place.
     pub fn at(&self, place: usize) -> u32
         requires { place < length self.now }
         ensures { result ≡ slice_index self.now place }

@@ -1,4 +1,4 @@
-//! The first place of each key, kept in as much memory as the keys and the places themselves.
+//! The first place of each key, kept as a sorted list of pairs.
 #![tactic(auto)]
 
 mod places;

@@ -30,7 +30,7 @@ impl Model for FirstPlaces {
 }
 
 impl FirstPlaces {
-    /// Keeps the first place of each key, in time n log n and in no memory but that of the pairs.
+    /// Keeps the first place of each key.
     pub fn of(mut pairs: Vec<(u32, u32)>) -> FirstPlaces
         requires { AreInOrder pairs.items }
         ensures { (key : ℕ) → map.get result key ≡ first_place pairs.items key }
@@ -39,7 +39,7 @@ impl FirstPlaces {
         FirstPlaces { sorted: pairs }
     }
 
-    /// The first place of a key, in logarithmic time; `None` where it has none.
+    /// The first place of a key; `None` where it has none.
     pub fn get(&self, key: u32) -> Option<u32>
         ensures { result ≡ map.get self.now key }
     {

@@ -1,6 +1,6 @@
 use dx_base::List;
 use spirv_meaning::site_of;
-use spv_form::{Inst, Module, Operands, VERSION_1_6, op};
+use spv_form::{Inst, Module, Operands, Version, op};
 use std::alloc::Global;
 use std::test::Fail;
 
@@ -19,7 +19,7 @@ fn module_of(alloc: Global, insts: &[(u16, &[u32])]) -> Result<Module, &'static 
         list.push(inst).map_err(|_| "memory")?;
     }
     Ok(Module {
-        version: VERSION_1_6,
+        version: Version::V16,
         bound: 100,
         insts: list,
     })

@@ -6,6 +6,7 @@ use Rattle.std.proofs.lemmas.Option.{slice_get_within, same_Some, get_or_from_sl
 use Rattle.dx_base.specs.First.{IsFirst, IsSound}
 use Rattle.spv_form.specs.declared.module.Inst.{Inst}
 use Rattle.spv_form.specs.declared.module.Module.{Module}
+use Rattle.spv_form.specs.declared.module.Version.{Version}
 use Rattle.spv_form.specs.declared.fault.CheckFault.{CheckFault}
 use Rattle.spv_form.specs.declared.fault.CheckFault.TheVariants.{Refused, OutOfMemory}
 use Rattle.spv_form.specs.declared.fault.WordRule.TheVariants.{W, V, S}
@@ -56,71 +57,71 @@ few insts h = omega (arith, h, long insts, ap (sum_by size_of) (take_all (length
 
 -- ---- instruction by instruction
 -- none of the first so many instructions breaks a rule, and the next one begins at this word
-pub record IsClear (insts : List Inst) (at word : ℕ) : Type 0 where
+pub record IsClear (version : Version) (insts : List Inst) (at word : ℕ) : Type 0 where
   pub word_is : word ≡ start_of insts at
-  pub none : (i : ℕ) (x : Inst) (rule : ℕ) → i < at → slice_get insts i ≡ Some x → Breaks insts i x rule → ⊥
+  pub none : (i : ℕ) (x : Inst) (rule : ℕ) → i < at → slice_get insts i ≡ Some x → Breaks version insts i x rule → ⊥
 
-pub clear_first : (insts : List Inst) → IsClear insts 0 5
-clear_first insts = record { word_is = refl; none = λ i x rule h e b. absurd (omega arith) }
+pub clear_first : (version : Version) (insts : List Inst) → IsClear version insts 0 5
+clear_first version insts = record { word_is = refl; none = λ i x rule h e b. absurd (omega arith) }
 
-module _ (insts : List Inst) (at word : ℕ) (x : Inst) (c : IsClear insts at word) (there : slice_get insts at ≡ Some x) where
+module _ (version : Version) (insts : List Inst) (at word : ℕ) (x : Inst) (c : IsClear version insts at word) (there : slice_get insts at ≡ Some x) where
   one : (y : Inst) (i : ℕ) → i ≡ at → slice_get insts i ≡ Some y → y ≡ x
   one y i same e = same_Some y x (sym e ∙ ap (slice_get insts) same ∙ there)
 
-  pub clear_more : Finds insts at x 1 16 None → IsClear insts (at + 1) (word + (1 + length x.operands))
+  pub clear_more : Finds version insts at x 1 16 None → IsClear version insts (at + 1) (word + (1 + length x.operands))
   clear_more u = record { word_is = omega (arith, c.word_is, start_more insts at x there); none = none } where
-    none : (i : ℕ) (y : Inst) (rule : ℕ) → i < at + 1 → slice_get insts i ≡ Some y → Breaks insts i y rule → ⊥
+    none : (i : ℕ) (y : Inst) (rule : ℕ) → i < at + 1 → slice_get insts i ≡ Some y → Breaks version insts i y rule → ⊥
     none i y rule h e b = elim (cases_lt i at) [
       | inl before ↦ c.none i y rule before e b
       | inr above ↦
           let same : i ≡ at = omega arith in
-          let here : Breaks insts at x rule = subst (λ (z : Inst). Breaks insts at z rule) (one y i same e) (subst (λ (k : ℕ). Breaks insts k y rule) same b) in
-          let n = numbered insts at x rule here in
+          let here : Breaks version insts at x rule = subst (λ (z : Inst). Breaks version insts at z rule) (one y i same e) (subst (λ (k : ℕ). Breaks version insts k y rule) same b) in
+          let n = numbered version insts at x rule here in
           u.none rule n.0 n.1 here
     ]
 
-  pub first_broken : (rule : ℕ) → Finds insts at x 1 16 (Some rule) → IsFirst (BrokenBy insts) rule word
-  first_broken rule f = record { broken = subst (BrokenBy insts rule) (sym c.word_is) (BrokenBy.instruction at x there f.0); least = least } where
-    least : (other place : ℕ) → BrokenBy insts other place → (word < place) ⊎ ((word ≡ place) × (rule ≤ other))
+  pub first_broken : (rule : ℕ) → Finds version insts at x 1 16 (Some rule) → IsFirst (BrokenBy version insts) rule word
+  first_broken rule f = record { broken = subst (BrokenBy version insts rule) (sym c.word_is) (BrokenBy.instruction at x there f.0); least = least } where
+    least : (other place : ℕ) → BrokenBy version insts other place → (word < place) ⊎ ((word ≡ place) × (rule ≤ other))
     least other place (BrokenBy.instruction i y e b) = elim (cases_lt i at) [
       | inl before ↦ absurd (c.none i y other before e b)
       | inr above ↦ elim (cases_lt at i) [
         | inl behind ↦ inl (omega (arith, c.word_is, later insts at i x there behind))
         | inr below ↦
             let same : i ≡ at = omega arith in
-            let here : Breaks insts at x other = subst (λ (z : Inst). Breaks insts at z other) (one y i same e) (subst (λ (k : ℕ). Breaks insts k y other) same b) in
-            let n = numbered insts at x other here in
+            let here : Breaks version insts at x other = subst (λ (z : Inst). Breaks version insts at z other) (one y i same e) (subst (λ (k : ℕ). Breaks version insts k y other) same b) in
+            let n = numbered version insts at x other here in
             inr (c.word_is ∙ ap (start_of insts) (sym same), elim (cases_lt other rule) [ inl lesser ↦ absurd (f.3.none other n.0 lesser here) | inr greater ↦ greater ])
       ]
     ]
 
-pub all_clear : (insts : List Inst) (at word : ℕ) → IsClear insts at word → length insts ≤ at → IsSound (BrokenBy insts)
-all_clear insts at word c h = record { none = none } where
-  none : (rule place : ℕ) → BrokenBy insts rule place → ⊥
+pub all_clear : (version : Version) (insts : List Inst) (at word : ℕ) → IsClear version insts at word → length insts ≤ at → IsSound (BrokenBy version insts)
+all_clear version insts at word c h = record { none = none } where
+  none : (rule place : ℕ) → BrokenBy version insts rule place → ⊥
   none rule place (BrokenBy.instruction i x e b) = let within = slice_get_within insts i x e in c.none i x rule (omega arith) e b
 
 -- ---- word 5
-module _ (insts : List Inst) (missing : ℕ) (m : FindsMissing insts (Some missing)) where
-  pub start_alone : ((x : Inst) → slice_get insts 0 ≡ Some x → Finds insts 0 x 1 16 None) → IsLeastAtStart insts missing
+module _ (version : Version) (insts : List Inst) (missing : ℕ) (m : FindsMissing insts (Some missing)) where
+  pub start_alone : ((x : Inst) → slice_get insts 0 ≡ Some x → Finds version insts 0 x 1 16 None) → IsLeastAtStart version insts missing
   start_alone u = record { broken = inl m.0; least = least } where
-    least : (other : ℕ) → AtStart insts other → missing ≤ other
+    least : (other : ℕ) → AtStart version insts other → missing ≤ other
     least other (inl h) = m.1 other h
-    least other (inr (x, e, b)) = let n = numbered insts 0 x other b in absurd ((u x e).none other n.0 n.1 b)
+    least other (inr (x, e, b)) = let n = numbered version insts 0 x other b in absurd ((u x e).none other n.0 n.1 b)
 
-  pub start_with : (x : Inst) (rule : ℕ) → slice_get insts 0 ≡ Some x → Finds insts 0 x 1 16 (Some rule) → IsLeastAtStart insts (min rule missing)
+  pub start_with : (x : Inst) (rule : ℕ) → slice_get insts 0 ≡ Some x → Finds version insts 0 x 1 16 (Some rule) → IsLeastAtStart version insts (min rule missing)
   start_with x rule there f = record { broken = broken; least = least } where
-    broken : AtStart insts (min rule missing)
+    broken : AtStart version insts (min rule missing)
     broken = elim (cases_lt rule missing) [
-      | inl lesser ↦ let same : rule ≡ min rule missing = omega arith in inr (x, there, subst (Breaks insts 0 x) same f.0)
+      | inl lesser ↦ let same : rule ≡ min rule missing = omega arith in inr (x, there, subst (Breaks version insts 0 x) same f.0)
       | inr greater ↦ let same : missing ≡ min rule missing = omega arith in inl (subst (Misses insts) same m.0)
     ]
 
-    least : (other : ℕ) → AtStart insts other → min rule missing ≤ other
+    least : (other : ℕ) → AtStart version insts other → min rule missing ≤ other
     least other (inl h) = let l = m.1 other h in omega arith
     least other (inr (y, e, b)) =
         let same : y ≡ x = same_Some y x (sym e ∙ there) in
-        let here : Breaks insts 0 x other = subst (λ (z : Inst). Breaks insts 0 z other) same b in
-        let n = numbered insts 0 x other here in
+        let here : Breaks version insts 0 x other = subst (λ (z : Inst). Breaks version insts 0 z other) same b in
+        let n = numbered version insts 0 x other here in
         elim (cases_lt other rule) [ inl lesser ↦ absurd (f.3.none other n.0 lesser here) | inr greater ↦ omega arith ]
 
 -- ---- the module
@@ -134,9 +135,9 @@ high m h = record { broken = Broken.high_bound h; least = least } where
   least other place (Broken.missing b) = inl (omega arith)
   least other place (Broken.instruction i x e b) = inl (omega (arith, five m.insts i))
 
-pub at_start : (m : Module) (rule : ℕ) → m.bound ≤ 4194303 → IsLeastAtStart m.insts rule → IsFirst (Broken m) rule 5
+pub at_start : (m : Module) (rule : ℕ) → m.bound ≤ 4194303 → IsLeastAtStart m.version m.insts rule → IsFirst (Broken m) rule 5
 at_start m rule h s = record { broken = broken s.broken; least = least } where
-  broken : AtStart m.insts rule → Broken m rule 5
+  broken : AtStart m.version m.insts rule → Broken m rule 5
   broken (inl b) = Broken.missing b
   broken (inr (x, e, b)) = Broken.instruction 0 x e b
 
@@ -150,7 +151,7 @@ at_start m rule h s = record { broken = broken s.broken; least = least } where
     first (y ∷ ys) i x e = (y, refl)
 
 -- nothing is missing, and the bound is not too high: the rest is asked of the instructions
-pub alone : (m : Module) (result : Result (Unit {0}) CheckFault) → m.bound ≤ 4194303 → FindsMissing m.insts None → EachAnswer result m.insts → RulesAnswer result m
+pub alone : (m : Module) (result : Result (Unit {0}) CheckFault) → m.bound ≤ 4194303 → FindsMissing m.insts None → EachAnswer result m.version m.insts → RulesAnswer result m
 alone m (Ok u) h n a = record { none = none } where
   none : (rule place : ℕ) → Broken m rule place → ⊥
   none rule place (Broken.high_bound b) = omega arith
@@ -158,7 +159,7 @@ alone m (Ok u) h n a = record { none = none } where
   none rule place (Broken.instruction i x e b) = a.none rule (start_of m.insts i) (BrokenBy.instruction i x e b)
 alone m (Err (Refused (W rule) word)) h n a = a
 alone m (Err (Refused (V rule) word)) h n a = record { broken = broken word a.broken; least = least } where
-  broken : (place : ℕ) → BrokenBy m.insts rule place → Broken m rule place
+  broken : (place : ℕ) → BrokenBy m.version m.insts rule place → Broken m rule place
   broken place (BrokenBy.instruction i x e b) = Broken.instruction i x e b
 
   least : (other place : ℕ) → Broken m other place → (word < place) ⊎ ((word ≡ place) × (rule ≤ other))

@@ -3,6 +3,7 @@ use Rattle.std.specs.Prelude.{ℕ, ◌≡◌, ◌<◌, ◌≤◌, ◌⊎◌, Lis
 use Rattle.dx_base.specs.First.{IsFirst, IsSound}
 use Rattle.spv_form.specs.declared.module.Inst.{Inst}
 use Rattle.spv_form.specs.declared.module.Module.{Module}
+use Rattle.spv_form.specs.declared.module.Version.{Version}
 use Rattle.spv_form.specs.declared.fault.CheckFault.{CheckFault}
 use Rattle.spv_form.specs.declared.fault.CheckFault.TheVariants.{Refused, OutOfMemory}
 use Rattle.spv_form.specs.declared.fault.WordRule.TheVariants.{W, V, S}
@@ -25,13 +26,13 @@ RulesAnswer (Err OutOfMemory) m = Unit {0}
 -- ---- of the parts
 
 -- none of the rules from `low` up to `high` is broken
-pub record IsUnbroken (insts : List Inst) (at : ℕ) (x : Inst) (low high : ℕ) : Type 0 where
-  pub none : (rule : ℕ) → low ≤ rule → rule < high → Breaks insts at x rule → ⊥
+pub record IsUnbroken (version : Version) (insts : List Inst) (at : ℕ) (x : Inst) (low high : ℕ) : Type 0 where
+  pub none : (rule : ℕ) → low ≤ rule → rule < high → Breaks version insts at x rule → ⊥
 
 -- the least rule from `low` up to `high` that is broken
-abbrev pub Finds : List Inst → ℕ → Inst → ℕ → ℕ → Option ℕ → Type 0
-Finds insts at x low high None = IsUnbroken insts at x low high
-Finds insts at x low high (Some rule) = Breaks insts at x rule × (low ≤ rule) × (rule < high) × IsUnbroken insts at x low rule
+abbrev pub Finds : Version → List Inst → ℕ → Inst → ℕ → ℕ → Option ℕ → Type 0
+Finds version insts at x low high None = IsUnbroken version insts at x low high
+Finds version insts at x low high (Some rule) = Breaks version insts at x rule × (low ≤ rule) × (rule < high) × IsUnbroken version insts at x low rule
 
 -- the least rule that wants a missing instruction
 abbrev pub FindsMissing : List Inst → Option ℕ → Type 0
@@ -60,21 +61,21 @@ IsWriteAnswer true insts x = Writes insts x
 IsWriteAnswer false insts x = Writes insts x → ⊥
 
 -- a rule is broken by what is missing, or by the first instruction
-abbrev pub AtStart : List Inst → ℕ → Type 0
-AtStart insts rule = Misses insts rule ⊎ ((x : Inst) × (slice_get insts 0 ≡ Some x) × Breaks insts 0 x rule)
+abbrev pub AtStart : Version → List Inst → ℕ → Type 0
+AtStart version insts rule = Misses insts rule ⊎ ((x : Inst) × (slice_get insts 0 ≡ Some x) × Breaks version insts 0 x rule)
 
 -- the least of these
-pub record IsLeastAtStart (insts : List Inst) (rule : ℕ) : Type 0 where
-  pub broken : AtStart insts rule
-  pub least : (other : ℕ) → AtStart insts other → rule ≤ other
+pub record IsLeastAtStart (version : Version) (insts : List Inst) (rule : ℕ) : Type 0 where
+  pub broken : AtStart version insts rule
+  pub least : (other : ℕ) → AtStart version insts other → rule ≤ other
 
 -- the rules of the instructions alone
-pub data BrokenBy (insts : List Inst) : ℕ → ℕ → Type 0 where
-  instruction : {rule : ℕ} (i : ℕ) (x : Inst) → slice_get insts i ≡ Some x → Breaks insts i x rule → BrokenBy insts rule (start_of insts i)
+pub data BrokenBy (version : Version) (insts : List Inst) : ℕ → ℕ → Type 0 where
+  instruction : {rule : ℕ} (i : ℕ) (x : Inst) → slice_get insts i ≡ Some x → Breaks version insts i x rule → BrokenBy version insts rule (start_of insts i)
 
-abbrev pub EachAnswer : Result (Unit {0}) CheckFault → List Inst → Type 0
-EachAnswer (Ok u) insts = IsSound (BrokenBy insts)
-EachAnswer (Err (Refused (W rule) word)) insts = ⊥
-EachAnswer (Err (Refused (V rule) word)) insts = IsFirst (BrokenBy insts) rule word
-EachAnswer (Err (Refused (S rule) word)) insts = ⊥
-EachAnswer (Err OutOfMemory) insts = Unit {0}
+abbrev pub EachAnswer : Result (Unit {0}) CheckFault → Version → List Inst → Type 0
+EachAnswer (Ok u) version insts = IsSound (BrokenBy version insts)
+EachAnswer (Err (Refused (W rule) word)) version insts = ⊥
+EachAnswer (Err (Refused (V rule) word)) version insts = IsFirst (BrokenBy version insts) rule word
+EachAnswer (Err (Refused (S rule) word)) version insts = ⊥
+EachAnswer (Err OutOfMemory) version insts = Unit {0}

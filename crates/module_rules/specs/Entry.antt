@@ -3,6 +3,8 @@ use Rattle.std.specs.Prelude.{ℕ, ◌≡◌, ◌+◌, ◌*◌, ◌==◌, ◌||�
 use Rattle.std.specs.List.{list_all}
 use Rattle.std.specs.Option.{option_map_or, unwrap_or}
 use Rattle.spv_form.specs.declared.module.Inst.{Inst}
+use Rattle.spv_form.specs.declared.module.Version.{Version}
+use Rattle.spv_form.specs.declared.module.Version.TheVariants.{V13, V16}
 use Rattle.spv_form.specs.Operands.{string_last}
 use Rattle.spv_ids.specs.Roles.{operand}
 use Rattle.spv_ids.specs.Places.{is_op}
@@ -12,17 +14,29 @@ use Rattle.type_rules.specs.Types.{is_defined_as, is_void}
 unfoldable pub interface : Inst → List ℕ
 interface x = option_map_or (λ last. drop (last + 1) x.operands) (string_last x.operands 2) []
 
--- Variable: type, result, storage class. It is global where its class is not Function.
-abbrev pub is_global : Inst → Bool
-is_global x = x.opcode == 59 && not (operand x 2 == 7)
+-- Variable: type, result, storage class. It is one that an interface lists: at version 1.6 a global variable, whose class is not Function; at version 1.3
+-- an Input variable.
+abbrev pub is_listed_variable : Version → Inst → Bool
+is_listed_variable V16 x = x.opcode == 59 && not (operand x 2 == 7)
+is_listed_variable V13 x = x.opcode == 59 && operand x 2 == 1
 
--- each global variable is in this list exactly once
-abbrev pub lists_each_once : List Inst → List ℕ → Bool
-lists_each_once insts ids = list_all (λ y. not (is_global y) || count_by (λ id. id == operand y 1) ids == 1) insts
+-- each such variable is in this list exactly once
+abbrev pub lists_each_once : Version → List Inst → List ℕ → Bool
+lists_each_once version insts ids = list_all (λ y. not (is_listed_variable version y) || count_by (λ id. id == operand y 1) ids == 1) insts
 
--- V9: the interface of an EntryPoint does not list each global variable exactly once.
-unfoldable pub is_wrong_interface : List Inst → Inst → Bool
-is_wrong_interface insts x = x.opcode == 15 && not (lists_each_once insts (interface x))
+-- the id is an Input variable
+unfoldable pub is_input : List Inst → ℕ → Bool
+is_input insts id = is_defined_as insts id (is_listed_variable V13)
+
+-- at version 1.3 an id in the list is no Input variable; at version 1.6 other ids may stand there
+abbrev pub lists_another : Version → List Inst → List ℕ → Bool
+lists_another V16 insts ids = false
+lists_another V13 insts ids = not (list_all (is_input insts) ids)
+
+-- V9: at version 1.6 the interface of an EntryPoint does not list each global variable exactly once; at version 1.3 it does not list each Input variable
+-- exactly once, or it lists another id.
+unfoldable pub is_wrong_interface : Version → List Inst → Inst → Bool
+is_wrong_interface version insts x = x.opcode == 15 && (not (lists_each_once version insts (interface x)) || lists_another version insts (interface x))
 
 -- the id is a TypeFunction (result, parameters) of void without parameters
 unfoldable pub is_void_function : List Inst → ℕ → Bool
@@ -63,6 +77,6 @@ pub record AreCounts (count : ℕ → Option ℕ) (ids : List ℕ) : Type 0 wher
 pub record IsCounted (old new : ℕ → Option ℕ) (id : ℕ) : Type 0 where
   pub counted : (q : ℕ) → unwrap_or (new q) 0 ≡ unwrap_or (old q) 0 + (if id == q then 1 else 0)
 
--- by such a table: it is no global variable, or stands once
-abbrev pub is_listed_once : (ℕ → Option ℕ) → Inst → Bool
-is_listed_once count y = not (is_global y) || unwrap_or (count (operand y 1)) 0 == 1
+-- by such a table: it is no variable that is listed, or stands once
+abbrev pub is_listed_once : Version → (ℕ → Option ℕ) → Inst → Bool
+is_listed_once version count y = not (is_listed_variable version y) || unwrap_or (count (operand y 1)) 0 == 1

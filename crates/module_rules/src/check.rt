@@ -24,7 +24,7 @@ const MOST_BOUND: u32 = 4_194_303;
 fn order_rule(tables: &Tables, at: usize, inst: &Inst) -> Option<u8>
     requires tables { answer.AreTables tables.now }
     requires there { slice_get tables.now.ids at ≡ Some inst.now }
-    ensures { answer.Finds tables.now.ids at inst.now 1 5 result }
+    ensures { answer.Finds tables.now.version tables.now.ids at inst.now 1 5 result }
 {
     if is_there(at, tables.out_of_order) {
         return Some(1);
@@ -45,7 +45,7 @@ fn order_rule(tables: &Tables, at: usize, inst: &Inst) -> Option<u8>
 fn type_rule(tables: &Tables, at: usize, inst: &Inst) -> Option<u8>
     requires tables { answer.AreTables tables.now }
     requires there { slice_get tables.now.ids at ≡ Some inst.now }
-    ensures { answer.Finds tables.now.ids at inst.now 5 8 result }
+    ensures { answer.Finds tables.now.version tables.now.ids at inst.now 5 8 result }
 {
     if !is_listed(&tables.ids, inst) {
         return Some(5);
@@ -79,7 +79,7 @@ fn entry_rule(
 ) -> Result<Option<u8>, OutOfMemory>
     requires tables { answer.AreTables tables.now }
     requires there { slice_get tables.now.ids at ≡ Some inst.now }
-    ensures { IfOk result (answer.Finds tables.now.ids at inst.now 8 11) }
+    ensures { IfOk result (answer.Finds tables.now.version tables.now.ids at inst.now 8 11) }
 {
     if !is_sound_variable(&tables.ids, &tables.resources, inst) {
         return Ok(Some(8));
@@ -87,7 +87,7 @@ fn entry_rule(
     if writes_read_only(tables, inst) {
         return Ok(Some(8));
     }
-    if is_wrong_interface(alloc, &tables.ids, inst)? {
+    if is_wrong_interface(alloc, tables.version, &tables.ids, inst)? {
         return Ok(Some(9));
     }
     if is_wrong_entry(&tables.ids, inst) {
@@ -100,7 +100,7 @@ fn entry_rule(
 fn size_rule(tables: &Tables, at: usize, inst: &Inst) -> Option<u8>
     requires tables { answer.AreTables tables.now }
     requires there { slice_get tables.now.ids at ≡ Some inst.now }
-    ensures { answer.Finds tables.now.ids at inst.now 11 16 result }
+    ensures { answer.Finds tables.now.version tables.now.ids at inst.now 11 16 result }
 {
     if !tables.landmarks.is_placed(at, inst) {
         return Some(11);
@@ -126,7 +126,7 @@ fn broken_rule(
 ) -> Result<Option<u8>, OutOfMemory>
     requires tables { answer.AreTables tables.now }
     requires there { slice_get tables.now.ids at ≡ Some inst.now }
-    ensures { IfOk result (answer.Finds tables.now.ids at inst.now 1 16) }
+    ensures { IfOk result (answer.Finds tables.now.version tables.now.ids at inst.now 1 16) }
 {
     if let Some(rule) = order_rule(tables, at, inst) {
         return Ok(Some(rule));
@@ -170,7 +170,7 @@ fn refused(rule: u8, word: u32) -> CheckFault
 fn rule_at_start(alloc: Global, tables: &Tables, missing: u8) -> Result<u8, OutOfMemory>
     requires tables { answer.AreTables tables.now }
     requires missing { answer.FindsMissing tables.now.ids (Some missing) }
-    ensures { IfOk result (answer.IsLeastAtStart tables.now.ids) }
+    ensures { IfOk result (answer.IsLeastAtStart tables.now.version tables.now.ids) }
 {
     let insts = tables.ids.insts();
     if insts.len() == 0 {
@@ -186,7 +186,7 @@ fn rule_at_start(alloc: Global, tables: &Tables, missing: u8) -> Result<u8, OutO
 fn each_rule(alloc: Global, tables: &Tables) -> Result<(), CheckFault>
     requires tables { answer.AreTables tables.now }
     requires short { start_of tables.now.ids (length tables.now.ids) < 2 ^ 32 }
-    ensures { answer.EachAnswer result tables.now.ids }
+    ensures { answer.EachAnswer result tables.now.version tables.now.ids }
 {
     let mut word = 5u32;
     for (at, inst) in tables.ids.insts().iter().enumerate() {
@@ -201,8 +201,7 @@ fn each_rule(alloc: Global, tables: &Tables) -> Result<(), CheckFault>
 
 /// Ok exactly where a module breaks no rule V, else the broken rule of least word, and there of least number.
 ///
-/// The word of a rule is that of the instruction that breaks it, or word 5 for something that is missing. The time is that of a sort in the
-/// number of words, and the tables are as large as the instructions that they are made of.
+/// The word of a rule is that of the instruction that breaks it, or word 5 for something that is missing.
 pub fn check_rules(alloc: Global, m: &Module) -> Result<(), CheckFault>
     requires formed { IsFormed m.now }
     requires short { start_of m.now.insts (length m.now.insts) < 2 ^ 32 }
@@ -211,7 +210,7 @@ pub fn check_rules(alloc: Global, m: &Module) -> Result<(), CheckFault>
     if m.bound > MOST_BOUND {
         return Err(refused(13, 3));
     }
-    let Ok(tables) = Tables::of(alloc, m.insts.as_slice()) else {
+    let Ok(tables) = Tables::of(alloc, m.version, m.insts.as_slice()) else {
         return Err(CheckFault::OutOfMemory);
     };
     if let Some(missing) = missing_rule(&tables.landmarks) {

@@ -7,7 +7,7 @@ ghost use Rattle.module_rules.specs.Entry as entry;
 
 use dx_base::OutOfMemory;
 use spirv_words::last_of;
-use spv_form::{Inst, Shape, op};
+use spv_form::{Inst, Shape, Version, op};
 use spv_ids::{Ids, first_with, operand};
 use std::alloc::Global;
 use std::collections::BTreeMap;
@@ -61,34 +61,84 @@ fn counts_of(alloc: Global, ids: &[u32]) -> Result<BTreeMap<u32, u32>, OutOfMemo
     Ok(counts)
 }
 
-/// Whether an instruction is no global variable, or stands once by the counts.
-fn is_listed_once(counts: &BTreeMap<u32, u32>, inst: &Inst) -> bool
-    ensures { result ≡ entry.is_listed_once (tree.get nat_cmp counts.now) inst.now }
+/// The storage classes that decide whether an interface lists a variable (SPIR-V 1.6, section 3.7).
+const INPUT: u32 = 1;
+
+const FUNCTION: u32 = 7;
+
+/// Whether an instruction is a variable that an interface lists: a global one at version 1.6, an Input variable at version 1.3.
+fn is_listed_variable(version: Version, inst: &Inst) -> bool
+    ensures { result ≡ entry.is_listed_variable version inst.now }
 {
-    if inst.opcode != op::VARIABLE || operand(inst, 2) == 7 {
-        return true;
+    inst.opcode == op::VARIABLE
+        && match version {
+            Version::V16 => operand(inst, 2) != FUNCTION,
+            Version::V13 => operand(inst, 2) == INPUT,
+        }
+}
+
+/// Whether an instruction is no variable that is listed, or stands once by the counts.
+fn is_listed_once(version: Version, counts: &BTreeMap<u32, u32>, inst: &Inst) -> bool
+    ensures { result ≡ entry.is_listed_once version (tree.get nat_cmp counts.now) inst.now }
+{
+    !is_listed_variable(version, inst) || counts.get(&operand(inst, 1)).copied().unwrap_or(0) == 1
+}
+
+/// Whether each variable that is listed stands once by the counts.
+fn are_listed_once(version: Version, counts: &BTreeMap<u32, u32>, insts: &[Inst]) -> bool
+    ensures { result ≡ list_all (entry.is_listed_once version (tree.get nat_cmp counts.now)) insts.now }
+{
+    insts
+        .iter()
+        .all(|inst| is_listed_once(version, counts, inst))
+}
+
+/// Whether the id is an Input variable.
+#[tactic(auto, unfolding(crate::specs::Entry::is_input))]
+fn is_input(ids: &Ids, id: u32) -> bool
+    ensures { result ≡ entry.is_input ids.now id }
+{
+    match ids.definition(id) {
+        Some(inst) => is_listed_variable(Version::V13, inst),
+        None => false,
     }
-    counts.get(&operand(inst, 1)).copied().unwrap_or(0) == 1
 }
 
-/// Whether each global variable stands once by the counts.
-fn are_listed_once(counts: &BTreeMap<u32, u32>, insts: &[Inst]) -> bool
-    ensures { result ≡ list_all (entry.is_listed_once (tree.get nat_cmp counts.now)) insts.now }
+/// Whether each of these ids is an Input variable.
+fn are_inputs(ids: &Ids, listed: &[u32]) -> bool
+    ensures { result ≡ list_all (entry.is_input ids.now) listed.now }
 {
-    insts.iter().all(|inst| is_listed_once(counts, inst))
+    listed.iter().all(|id| is_input(ids, *id))
 }
 
-/// Whether an instruction is an entry point whose interface does not list each global variable exactly once (rule V9).
+/// Whether an interface lists an id that it may not list: at version 1.3 any but the Input variables.
+fn lists_another(version: Version, ids: &Ids, listed: &[u32]) -> bool
+    ensures { result ≡ entry.lists_another version ids.now listed.now }
+{
+    match version {
+        Version::V16 => false,
+        Version::V13 => !are_inputs(ids, listed),
+    }
+}
+
+/// Whether an instruction is an entry point with a wrong interface (rule V9): at version 1.6 it does not list each global variable
+/// exactly once; at version 1.3 it does not list each Input variable exactly once, or it lists another id.
 #[tactic(auto, unfolding(crate::specs::Entry::is_wrong_interface))]
-pub fn is_wrong_interface(alloc: Global, ids: &Ids, inst: &Inst) -> Result<bool, OutOfMemory>
+pub fn is_wrong_interface(
+    alloc: Global,
+    version: Version,
+    ids: &Ids,
+    inst: &Inst,
+) -> Result<bool, OutOfMemory>
     requires { length inst.now.operands < 2 ^ 32 }
-    ensures { IfOk result (λ wrong. wrong ≡ entry.is_wrong_interface ids.now inst.now) }
+    ensures { IfOk result (λ wrong. wrong ≡ entry.is_wrong_interface version ids.now inst.now) }
 {
     if inst.opcode != op::ENTRY_POINT {
         return Ok(false);
     }
-    let counts = counts_of(alloc, interface(inst))?;
-    Ok(!are_listed_once(&counts, ids.insts()))
+    let listed = interface(inst);
+    let counts = counts_of(alloc, listed)?;
+    Ok(!are_listed_once(version, &counts, ids.insts()) || lists_another(version, ids, listed))
 }
 
 /// Whether the id is a type of functions of void without parameters.

@@ -6,13 +6,14 @@ use decoration_rules::{ReadOnly, Resources};
 use dx_base::OutOfMemory;
 use id_rules::{Blocks, Declared};
 use order_rules::{Landmarks, first_crowded, first_out_of_order};
-use spv_form::Inst;
+use spv_form::{Inst, Version};
 use spv_ids::Ids;
 use std::alloc::Global;
 
 /// What is known of the instructions of a module before they are asked one by one.
 #[derive(Drop)]
 pub struct Tables<'a> {
+    pub version: Version,
     pub ids: Ids<'a>,
     pub blocks: Blocks<'a>,
     pub types: Declared<'a>,
@@ -24,10 +25,11 @@ pub struct Tables<'a> {
 }
 
 impl<'a> Tables<'a> {
-    /// The tables of these instructions.
-    pub fn of(alloc: Global, insts: &'a [Inst]) -> Result<Tables<'a>, OutOfMemory>
+    /// The tables of these instructions, of a module of this version.
+    pub fn of(alloc: Global, version: Version, insts: &'a [Inst]) -> Result<Tables<'a>, OutOfMemory>
         requires few { length insts.now < 2 ^ 32 }
         requires formed { AreFormed insts.now }
+        ensures version { IfOk result (λ tables. tables.version ≡ version) }
         ensures insts { IfOk result (λ tables. tables.ids ≡ insts.now) }
         ensures exact { IfOk result answer.AreTables }
     {
@@ -41,6 +43,7 @@ impl<'a> Tables<'a> {
         let read_only = ReadOnly::of(alloc, &ids, &resources)?;
         let landmarks = Landmarks::of(insts);
         Ok(Tables {
+            version,
             ids,
             blocks,
             types,

@@ -3,19 +3,118 @@ ghost use Rattle.spv_form.specs.Words.{start_of};
 
 use dx_base::List;
 use flow_blocks::blocks_of;
-use flow_rules::{Merge, MergeKind, Terminator};
+use flow_rules::{BasicBlock, Merge, MergeKind, Terminator};
 use spv_form::{Inst, InstList, Operands, op};
 use std::alloc::Global;
 use std::process::Abort;
 use std::test::Fail;
 
-/// Adds an instruction.
-fn add(rt: &impl Abort, alloc: Global, insts: &mut InstList, opcode: u16, words: &[u32]) {
-    let mut operands = Operands::new(alloc);
-    for word in words {
-        assert!(rt; operands.push(*word).is_ok());
+/// An instruction, by its opcode and its operand words.
+type Row = (u16, &'static [u32]);
+
+/// What is told of a block: the words of its label and of its terminator, this, the blocks to which it branches, and its merge instructions.
+type Told = (
+    u32,
+    u32,
+    Terminator,
+    &'static [u32],
+    Option<Merge>,
+    &'static [Merge],
+);
+
+/// A function with the labels 6, 7 and 9, and none at 8, and its blocks.
+const FUNCTION: [Row; 12] = [
+    (op::FUNCTION, &[2, 4, 0, 3]),
+    (op::LABEL, &[6]),
+    (op::SELECTION_MERGE, &[9, 0]),
+    (op::LOOP_MERGE, &[9, 8, 0]),
+    (op::BRANCH_CONDITIONAL, &[5, 7, 9]),
+    (op::LABEL, &[7]),
+    (op::SELECTION_MERGE, &[9, 0]),
+    (op::LOAD, &[1, 10, 11]),
+    (op::SWITCH, &[10, 9, 30, 8, 31, 9]),
+    (op::LABEL, &[9]),
+    (op::RETURN, &[]),
+    (op::FUNCTION_END, &[]),
+];
+
+const LOOP_AT_15: Merge = Merge {
+    word: 15,
+    kind: MergeKind::Loop { continue_target: 0 },
+    merge_block: 2,
+};
+
+const SELECTION_AT_12: Merge = Merge {
+    word: 12,
+    kind: MergeKind::Selection,
+    merge_block: 2,
+};
+
+const SELECTION_AT_25: Merge = Merge {
+    word: 25,
+    kind: MergeKind::Selection,
+    merge_block: 2,
+};
+
+const OF_FUNCTION: [Told; 3] = [
+    (
+        10,
+        19,
+        Terminator::BranchConditional,
+        &[1, 2],
+        Some(LOOP_AT_15),
+        &[SELECTION_AT_12],
+    ),
+    (
+        23,
+        32,
+        Terminator::Switch,
+        &[2, 0, 2],
+        None,
+        &[SELECTION_AT_25],
+    ),
+    (39, 41, Terminator::Return, &[], None, &[]),
+];
+
+/// Instructions in which label 5 has no terminator, a return stands in no block, and label 7 stands twice, and their blocks.
+const LABELS: [Row; 9] = [
+    (op::LABEL, &[6]),
+    (op::SELECTION_MERGE, &[7, 0]),
+    (op::BRANCH, &[7]),
+    (op::LABEL, &[5]),
+    (op::LABEL, &[7]),
+    (op::RETURN, &[]),
+    (op::RETURN, &[]),
+    (op::LABEL, &[7]),
+    (op::BRANCH, &[7]),
+];
+
+const SELECTION_AT_7: Merge = Merge {
+    word: 7,
+    kind: MergeKind::Selection,
+    merge_block: 1,
+};
+
+const OF_LABELS: [Told; 3] = [
+    (5, 10, Terminator::Branch, &[1], Some(SELECTION_AT_7), &[]),
+    (14, 16, Terminator::Return, &[], None, &[]),
+    (18, 20, Terminator::Branch, &[1], None, &[]),
+];
+
+/// The instructions of these rows.
+fn listed(alloc: Global, rows: &[Row]) -> Result<InstList, Fail> {
+    let mut insts = List::new(alloc);
+    for (opcode, words) in rows {
+        let mut operands = Operands::new(alloc);
+        for word in *words {
+            operands.push(*word)?;
+        }
+        insts.push(Inst {
+            opcode: *opcode,
+            operands,
+        })?;
     }
-    assert!(rt; insts.push(Inst { opcode, operands }).is_ok());
+    Ok(insts)
 }
 
 /// Stops where the instructions have too many words.
@@ -32,81 +131,29 @@ fn expect_short(rt: &impl Abort, insts: &InstList)
     assert!(rt; word < 0x1_0000_0000);
 }
 
-#[test]
-fn a_block_has_its_words_merge_instructions_and_targets(rt: HostRuntime) -> Result<(), Fail> {
-    let alloc = rt.alloc();
-    let mut insts = List::new(alloc);
-    add(&rt, alloc, &mut insts, op::FUNCTION, &[2, 4, 0, 3]);
-    add(&rt, alloc, &mut insts, op::LABEL, &[6]);
-    add(&rt, alloc, &mut insts, op::SELECTION_MERGE, &[9, 0]);
-    add(&rt, alloc, &mut insts, op::LOOP_MERGE, &[9, 8, 0]);
-    add(&rt, alloc, &mut insts, op::BRANCH_CONDITIONAL, &[5, 7, 9]);
-    add(&rt, alloc, &mut insts, op::LABEL, &[7]);
-    add(&rt, alloc, &mut insts, op::SELECTION_MERGE, &[9, 0]);
-    add(&rt, alloc, &mut insts, op::LOAD, &[1, 10, 11]);
-    add(&rt, alloc, &mut insts, op::SWITCH, &[10, 9, 30, 8, 31, 9]);
-    add(&rt, alloc, &mut insts, op::LABEL, &[9]);
-    add(&rt, alloc, &mut insts, op::RETURN, &[]);
-    add(&rt, alloc, &mut insts, op::FUNCTION_END, &[]);
-    expect_short(&rt, &insts);
+fn expect_told(rt: &impl Abort, block: &BasicBlock, told: &Told) {
+    let (word, end, terminator, targets, merge, strays) = *told;
+    assert_eq!(rt; (block.word(), block.end_word()), (word, end));
+    assert_eq!(rt; block.terminator(), terminator);
+    assert_eq!(rt; block.targets(), targets);
+    assert_eq!(rt; block.merge(), merge);
+    assert_eq!(rt; block.strays(), strays);
+}
+
+/// Stops where the instructions have other blocks than these.
+fn expect_blocks(rt: &impl Abort, alloc: Global, rows: &[Row], told: &[Told]) -> Result<(), Fail> {
+    let insts = listed(alloc, rows)?;
+    expect_short(rt, &insts);
     let blocks = blocks_of(alloc, &insts)?;
-    assert_eq!(rt; blocks.len(), 3);
-    let blocks = blocks.as_slice();
-    assert!(rt; blocks.len() == 3);
-    // the blocks at the labels 6, 7 and 9; no block is at label 8
-    let [first, second, third] = [&blocks[0], &blocks[1], &blocks[2]];
-    assert_eq!(rt; (first.word(), first.end_word()), (10, 19));
-    assert_eq!(rt; first.terminator(), Terminator::BranchConditional);
-    assert_eq!(rt; first.targets(), [1, 2].as_slice());
-    let kind = MergeKind::Loop { continue_target: 0 };
-    let merge = Merge {
-        word: 15,
-        kind,
-        merge_block: 2,
-    };
-    assert_eq!(rt; first.merge(), Some(merge));
-    let stray = Merge {
-        word: 12,
-        kind: MergeKind::Selection,
-        merge_block: 2,
-    };
-    assert_eq!(rt; first.strays(), [stray].as_slice());
-    assert_eq!(rt; (second.word(), second.end_word()), (23, 32));
-    assert_eq!(rt; second.targets(), [2, 0, 2].as_slice());
-    assert_eq!(rt; second.merge(), None);
-    assert_eq!(rt; second.strays().len(), 1);
-    assert_eq!(rt; (third.word(), third.end_word()), (39, 41));
-    assert_eq!(rt; third.terminator(), Terminator::Return);
+    assert_eq!(rt; blocks.len(), told.len());
+    for (block, told) in blocks.as_slice().iter().zip(told) {
+        expect_told(rt, block, told);
+    }
     Ok(())
 }
 
 #[test]
-fn a_label_names_its_first_block(rt: HostRuntime) -> Result<(), Fail> {
-    let alloc = rt.alloc();
-    let mut insts = List::new(alloc);
-    add(&rt, alloc, &mut insts, op::LABEL, &[6]);
-    add(&rt, alloc, &mut insts, op::SELECTION_MERGE, &[7, 0]);
-    add(&rt, alloc, &mut insts, op::BRANCH, &[7]);
-    // label 5 has no terminator
-    add(&rt, alloc, &mut insts, op::LABEL, &[5]);
-    add(&rt, alloc, &mut insts, op::LABEL, &[7]);
-    add(&rt, alloc, &mut insts, op::RETURN, &[]);
-    add(&rt, alloc, &mut insts, op::RETURN, &[]);
-    add(&rt, alloc, &mut insts, op::LABEL, &[7]);
-    add(&rt, alloc, &mut insts, op::BRANCH, &[7]);
-    expect_short(&rt, &insts);
-    let blocks = blocks_of(alloc, &insts)?;
-    let blocks = blocks.as_slice();
-    assert!(rt; blocks.len() == 3);
-    assert_eq!(rt; blocks[0].targets(), [1].as_slice());
-    let merge = Merge {
-        word: 7,
-        kind: MergeKind::Selection,
-        merge_block: 1,
-    };
-    assert_eq!(rt; blocks[0].merge(), Some(merge));
-    assert_eq!(rt; blocks[1].terminator(), Terminator::Return);
-    assert_eq!(rt; (blocks[2].word(), blocks[2].end_word()), (18, 20));
-    assert_eq!(rt; blocks[2].targets(), [1].as_slice());
-    Ok(())
+fn a_block_has_its_words_merge_instructions_and_targets(rt: HostRuntime) -> Result<(), Fail> {
+    expect_blocks(&rt, rt.alloc(), &FUNCTION, &OF_FUNCTION)?;
+    expect_blocks(&rt, rt.alloc(), &LABELS, &OF_LABELS)
 }

@@ -1,6 +1,4 @@
-use crate::shader::words_of;
 use crate::structure::answer;
-use dx_base::bytes_of;
 use spv_form::WordRule;
 use std::alloc::{AllocError, Global};
 use std::process::Abort;
@@ -109,9 +107,7 @@ fn answer_of(
         push_step(&mut words, *step)?;
     }
     words.push(0x0001_0038)?;
-    let bytes = bytes_of(alloc, &words_of(alloc, words.as_slice())?)?;
-    assert!(rt; bytes.len() <= 1 << 26);
-    answer(alloc, bytes.as_slice())
+    answer(rt, alloc, words.as_slice())
 }
 
 /// Functions in pairs: one that breaks a rule S, with its number and word, and a neighbour that breaks none.

@@ -1,13 +1,21 @@
 //! Words of whole modules.
 
-use dx_base::{List, Words};
-use std::alloc::Global;
+ghost use Rattle.std.specs.Prelude.{◌≤◌, ◌^◌, length, IfOk};
+
+use dx_base::{Bytes, List, bytes_of};
+use std::alloc::{AllocError, Global};
+use std::process::Abort;
 use std::test::Fail;
+
+/// Word 1 of a module, by its version.
+pub const VERSION_1_3: u32 = 0x0001_0300;
+
+pub const VERSION_1_6: u32 = 0x0001_0600;
 
 /// The words of a shader that does nothing, with 8, 4 and 1 threads.
 pub const EMPTY_SHADER: [u32; 38] = [
     0x0723_0203,
-    0x0001_0600,
+    VERSION_1_6,
     0x0000_0000,
     0x0000_0005,
     0x0000_0000,
@@ -50,7 +58,7 @@ pub const EMPTY_SHADER: [u32; 38] = [
 pub const SHARED_MERGE: [u32; 62] = [
     // the header, Capability Shader, MemoryModel Logical GLSL450, EntryPoint GLCompute %1 "main", LocalSize 1 1 1
     0x0723_0203,
-    0x0001_0600,
+    VERSION_1_6,
     0,
     10,
     0,
@@ -119,11 +127,47 @@ pub const SHARED_MERGE: [u32; 62] = [
     0x0001_0038,
 ];
 
-/// A list of these words.
-pub fn words_of(alloc: Global, words: &[u32]) -> Result<Words, Fail> {
+/// The shader with these words changed.
+pub fn changed(
+    rt: &impl Abort,
+    alloc: Global,
+    shader: &[u32],
+    changes: &[(usize, u32)],
+) -> Result<Vec<u32>, AllocError> {
+    let mut words = shader.to_vec(alloc)?;
+    for (at, word) in changes {
+        assert!(rt; *at < words.len());
+        words[*at] = *word;
+    }
+    Ok(words)
+}
+
+/// The shader with `put` in place of `cut` words from a word on.
+pub fn spliced(
+    rt: &impl Abort,
+    alloc: Global,
+    shader: &[u32],
+    at: usize,
+    cut: usize,
+    put: &[u32],
+) -> Result<Vec<u32>, AllocError> {
+    assert!(rt; at <= shader.len());
+    assert!(rt; cut <= shader.len() - at);
+    let mut words = shader[..at].to_vec(alloc)?;
+    words.extend_from_slice(put)?;
+    words.extend_from_slice(&shader[at + cut..])?;
+    Ok(words)
+}
+
+/// The bytes of these words.
+pub fn file_of(rt: &impl Abort, alloc: Global, words: &[u32]) -> Result<Bytes, Fail>
+    ensures { IfOk result (λ bytes. length bytes ≤ 2 ^ 26) }
+{
     let mut list = List::new(alloc);
     for word in words {
         list.push(*word)?;
     }
-    Ok(list)
+    let bytes = bytes_of(alloc, &list)?;
+    assert!(rt; bytes.len() <= 1 << 26);
+    Ok(bytes)
 }

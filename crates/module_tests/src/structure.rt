@@ -1,7 +1,4 @@
-ghost use Rattle.std.specs.Prelude.{◌≤◌, ◌^◌, length};
-
-use crate::shader::{SHARED_MERGE, words_of};
-use dx_base::bytes_of;
+use crate::shader::{SHARED_MERGE, changed, file_of, spliced};
 use spirv_words::read_module;
 use spv_form::{CheckFault, WordRule};
 use std::alloc::Global;
@@ -9,11 +6,14 @@ use std::process::Abort;
 use std::test::Fail;
 use structure_rules::check_module;
 
-/// The rule that the module in these bytes breaks, and its word; None where it breaks none.
-pub fn answer(alloc: Global, bytes: &[u8]) -> Result<Option<(WordRule, u32)>, Fail>
-    requires { length bytes.now ≤ 2 ^ 26 }
-{
-    let module = read_module(alloc, bytes)?;
+/// The rule V or S that the module of these words breaks, and its word; None where it breaks none.
+pub fn answer(
+    rt: &impl Abort,
+    alloc: Global,
+    words: &[u32],
+) -> Result<Option<(WordRule, u32)>, Fail> {
+    let file = file_of(rt, alloc, words)?;
+    let module = read_module(alloc, file.as_slice())?;
     match check_module(alloc, &module) {
         Ok(()) => Ok(None),
         Err(CheckFault::Refused { rule, word }) => Ok(Some((rule, word))),
@@ -21,65 +21,48 @@ pub fn answer(alloc: Global, bytes: &[u8]) -> Result<Option<(WordRule, u32)>, Fa
     }
 }
 
-/// The answer for the shader with these words changed, and `put` in place of `cut` words from a word on.
-fn answer_with(
+/// The answer for the shader with these words changed.
+fn answer_of(
     rt: &impl Abort,
     alloc: Global,
     changes: &[(usize, u32)],
-    at: usize,
-    cut: usize,
-    put: &[u32],
 ) -> Result<Option<(WordRule, u32)>, Fail> {
-    let mut shader = SHARED_MERGE;
-    for (word, value) in changes {
-        assert!(rt; *word < shader.len());
-        shader[*word] = *value;
-    }
-    assert!(rt; at <= shader.len());
-    assert!(rt; cut <= shader.len() - at);
-    let mut words = shader[..at].to_vec(alloc)?;
-    for word in put {
-        words.push(*word)?;
-    }
-    for word in &shader[at + cut..] {
-        words.push(*word)?;
-    }
-    let bytes = bytes_of(alloc, &words_of(alloc, words.as_slice())?)?;
-    assert!(rt; bytes.len() <= 1 << 26);
-    answer(alloc, bytes.as_slice())
+    answer(
+        rt,
+        alloc,
+        changed(rt, alloc, &SHARED_MERGE, changes)?.as_slice(),
+    )
 }
+
+/// Words of the shader that are changed, and the rule that it then breaks with its word.
+const CHANGES: [(&[(usize, u32)], WordRule, u32); 5] = [
+    // as it stands
+    (&[], WordRule::S(3), 47),
+    // the merge block of label 7 made 8: the branch from 7 to 9 leaves its construct
+    (&[(48, 8)], WordRule::S(10), 50),
+    // the merge block of label 7 made label 7 itself
+    (&[(48, 7)], WordRule::S(4), 47),
+    // the rules V come first: a thread count of 0 stands before the shared merge block, and a label that is none behind it
+    (&[(18, 0)], WordRule::V(12), 15),
+    (&[(57, 5)], WordRule::V(6), 56),
+];
 
 #[test]
 fn a_merge_block_is_of_one_header(rt: HostRuntime) -> Result<(), Fail> {
     let alloc = rt.alloc();
-    assert_eq!(rt;
-        answer_with(&rt, alloc, &[], 0, 0, &[])?,
-        Some((WordRule::S(3), 47))
-    );
-    // the merge block of label 7 made 8: the branch from 7 to 9 leaves its construct
-    assert_eq!(rt;
-        answer_with(&rt, alloc, &[(48, 8)], 0, 0, &[])?,
-        Some((WordRule::S(10), 50))
-    );
+    for (changes, rule, word) in CHANGES {
+        assert_eq!(rt;
+            answer_of(&rt, alloc, changes)?,
+            Some((rule, word)),
+            "{changes:?}"
+        );
+    }
     // label 10 stands before label 8, to which both branches of label 7 come together
     let before = [0x0002_00F8, 10, 0x0002_00F9, 8];
     let changes = [(3, 11), (48, 8), (52, 10), (53, 8)];
-    assert_eq!(rt; answer_with(&rt, alloc, &changes, 54, 0, &before)?, None);
-    Ok(())
-}
-
-#[test]
-fn rules_of_the_module_come_first(rt: HostRuntime) -> Result<(), Fail> {
-    let alloc = rt.alloc();
-    // a thread count of 0 stands before the shared merge block, and a label that is none behind it
-    assert_eq!(rt;
-        answer_with(&rt, alloc, &[(18, 0)], 0, 0, &[])?,
-        Some((WordRule::V(12), 15))
-    );
-    assert_eq!(rt;
-        answer_with(&rt, alloc, &[(57, 5)], 0, 0, &[])?,
-        Some((WordRule::V(6), 56))
-    );
+    let shader = changed(&rt, alloc, &SHARED_MERGE, &changes)?;
+    let shader = spliced(&rt, alloc, shader.as_slice(), 54, 0, &before)?;
+    assert_eq!(rt; answer(&rt, alloc, shader.as_slice())?, None);
     Ok(())
 }
 
@@ -119,29 +102,21 @@ fn answer_for_loop(
     word: usize,
     value: u32,
 ) -> Result<Option<(WordRule, u32)>, Fail> {
-    let mut body = LOOP;
-    assert!(rt; 36 <= word && word - 36 < body.len());
-    body[word - 36] = value;
-    answer_with(rt, alloc, &[], 36, 25, &body)
+    let shader = spliced(rt, alloc, &SHARED_MERGE, 36, 25, &LOOP)?;
+    let shader = changed(rt, alloc, shader.as_slice(), &[(word, value)])?;
+    answer(rt, alloc, shader.as_slice())
 }
 
 #[test]
-fn blocks_are_named_by_their_labels(rt: HostRuntime) -> Result<(), Fail> {
-    let alloc = rt.alloc();
-    // the merge block of label 7 made label 7 itself
-    assert_eq!(rt;
-        answer_with(&rt, alloc, &[(48, 7)], 0, 0, &[])?,
-        Some((WordRule::S(4), 47))
-    );
+fn blocks_of_a_loop_are_named_by_their_labels(rt: HostRuntime) -> Result<(), Fail> {
     // the loop as it stands; its continue target made its merge block; its way back made a way out
-    assert_eq!(rt; answer_for_loop(&rt, alloc, 44, 8)?, None);
-    assert_eq!(rt;
-        answer_for_loop(&rt, alloc, 44, 9)?,
-        Some((WordRule::S(5), 42))
-    );
-    assert_eq!(rt;
-        answer_for_loop(&rt, alloc, 53, 9)?,
-        Some((WordRule::S(6), 42))
-    );
+    for (word, value, want) in [
+        (44, 8, None),
+        (44, 9, Some((WordRule::S(5), 42))),
+        (53, 9, Some((WordRule::S(6), 42))),
+    ] {
+        let found = answer_for_loop(&rt, rt.alloc(), word, value)?;
+        assert_eq!(rt; found, want, "{value} at word {word}");
+    }
     Ok(())
 }

@@ -1,5 +1,6 @@
-use crate::shader::{EMPTY_SHADER, SHARED_MERGE, words_of};
-use dx_base::bytes_of;
+use crate::shader::{
+    EMPTY_SHADER, SHARED_MERGE, VERSION_1_3, VERSION_1_6, changed, file_of, spliced,
+};
 use spirv_words::{read_module, write_module};
 use spv_form::{CheckFault, WordRule, shape_of};
 use std::alloc::Global;
@@ -102,10 +103,9 @@ fn refusal(
     words: &[u32],
     count: usize,
 ) -> Result<Option<(WordRule, u32)>, Fail> {
-    let bytes = bytes_of(alloc, &words_of(alloc, words)?)?;
-    let whole = bytes.as_slice();
+    let file = file_of(rt, alloc, words)?;
+    let whole = file.as_slice();
     assert!(rt; count <= whole.len());
-    assert!(rt; count <= 1 << 26);
     match read_module(alloc, &whole[..count]) {
         Ok(_) => Ok(None),
         Err(CheckFault::Refused { rule, word }) => Ok(Some((rule, word))),
@@ -132,9 +132,8 @@ fn refusal_of(
 }
 
 fn is_read_and_written_again(rt: &impl Abort, alloc: Global, words: &[u32]) -> Result<(), Fail> {
-    let bytes = bytes_of(alloc, &words_of(alloc, words)?)?;
-    assert!(rt; bytes.len() <= 1 << 26);
-    let module = read_module(alloc, bytes.as_slice())?;
+    let file = file_of(rt, alloc, words)?;
+    let module = read_module(alloc, file.as_slice())?;
     let written = write_module(alloc, &module)?;
     assert_eq!(rt; written.as_slice(), words);
     Ok(())
@@ -143,6 +142,9 @@ fn is_read_and_written_again(rt: &impl Abort, alloc: Global, words: &[u32]) -> R
 #[test]
 fn modules_are_read_and_written_again(rt: HostRuntime) -> Result<(), Fail> {
     is_read_and_written_again(&rt, rt.alloc(), &EMPTY_SHADER)?;
+    let mut words = EMPTY_SHADER;
+    words[1] = VERSION_1_3;
+    is_read_and_written_again(&rt, rt.alloc(), &words)?;
     is_read_and_written_again(&rt, rt.alloc(), &SHARED_MERGE)
 }
 
@@ -152,6 +154,7 @@ fn a_changed_word_breaks_a_rule(rt: HostRuntime) -> Result<(), Fail> {
         // the magic number, the version and the schema
         (0, 0x0302_2307, 2, 0),
         (1, 0x0001_0500, 3, 1),
+        (1, 0x0001_0400, 3, 1),
         (4, 1, 4, 4),
         // a size that passes the end, and no size
         (37, 0x0002_0038, 5, 37),
@@ -174,11 +177,9 @@ fn a_changed_word_breaks_a_rule(rt: HostRuntime) -> Result<(), Fail> {
         (3, 0, 9, 10),
     ];
     for (at, word, rule, place) in changes {
-        let mut words = EMPTY_SHADER;
-        assert!(rt; at < 38);
-        words[at] = word;
+        let words = changed(&rt, rt.alloc(), &EMPTY_SHADER, &[(at, word)])?;
         assert_eq!(rt;
-            refusal(&rt, rt.alloc(), &words, 152)?,
+            refusal(&rt, rt.alloc(), words.as_slice(), 152)?,
             Some((WordRule::W(rule), place)),
             "word {at}"
         );
@@ -188,39 +189,31 @@ fn a_changed_word_breaks_a_rule(rt: HostRuntime) -> Result<(), Fail> {
 
 #[test]
 fn the_least_rule_answers_at_one_word(rt: HostRuntime) -> Result<(), Fail> {
-    let cases = [
+    let cases: [(&[u32], u8); 5] = [
         // an opcode that is not listed, and a size that passes the end
-        ([0x0004_00FE, 1, 1], 5),
-        ([0x0003_00FE, 0, 0], 6),
+        (&[0x0004_00FE, 1, 1], 5),
+        (&[0x0003_00FE, 0, 0], 6),
         // a type whose id is 0, with a word too many
-        ([0x0003_0013, 0, 0], 7),
-        // a name whose id is 0, with a byte behind its end
-        ([0x0003_0005, 0, 0x6200_3062], 8),
+        (&[0x0003_0013, 0, 0], 7),
+        // a name whose id is 0, with a byte behind its end, and with a word too many
+        (&[0x0003_0005, 0, 0x6200_3062], 8),
+        (&[0x0004_0005, 0, 0x6200_3062, 0], 7),
     ];
     for (inst, rule) in cases {
-        let words = [0x0723_0203, 0x0001_0600, 0, 2, 0, inst[0], inst[1], inst[2]];
+        let words = spliced(
+            &rt,
+            rt.alloc(),
+            &[0x0723_0203, VERSION_1_6, 0, 2, 0],
+            5,
+            0,
+            inst,
+        )?;
         assert_eq!(rt;
-            refusal(&rt, rt.alloc(), &words, 32)?,
+            refusal(&rt, rt.alloc(), words.as_slice(), 4 * (5 + inst.len()))?,
             Some((WordRule::W(rule), 5)),
             "rule {rule}"
         );
     }
-    // the same name with a word too many
-    let name = [
-        0x0723_0203,
-        0x0001_0600,
-        0,
-        2,
-        0,
-        0x0004_0005,
-        0,
-        0x6200_3062,
-        0,
-    ];
-    assert_eq!(rt;
-        refusal(&rt, rt.alloc(), &name, 36)?,
-        Some((WordRule::W(7), 5))
-    );
     Ok(())
 }
 

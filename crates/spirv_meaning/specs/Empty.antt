@@ -4,6 +4,7 @@ use Rattle.dxil_form.specs.declared.block.Term.TheVariants.{Ret}
 use Rattle.dxil_form.specs.declared.program.Program.{Program}
 use Rattle.spv_form.specs.declared.module.Inst.{Inst}
 use Rattle.spv_form.specs.declared.module.Module.{Module}
+use Rattle.spv_form.specs.declared.module.Version.TheVariants.{V16}
 use Rattle.dxil_meaning.specs.Source.{Launch, source, State as SourceState}
 use Rattle.spirv_meaning.specs.Target.{target, State as TargetState}
 
@@ -23,7 +24,7 @@ empty_program =
 abbrev pub empty_module_of : (x y z : ℕ) → Module
 empty_module_of x y z =
     record {
-      version = 0x10600;
+      version = V16;
       bound = 5;
       insts =
           inst 17 (1 ∷ []) ∷

@@ -8,6 +8,7 @@ use Rattle.dxil_form.specs.declared.program.Kind.TheVariants.{Raw}
 use Rattle.dxil_form.specs.declared.program.Resource.{Resource}
 use Rattle.spv_form.specs.declared.module.Inst.{Inst}
 use Rattle.spv_form.specs.declared.module.Module.{Module}
+use Rattle.spv_form.specs.declared.module.Version.TheVariants.{V16}
 use Rattle.dxil_meaning.specs.Launches as launch
 use Rattle.dxil_meaning.specs.Launches.{Event, Outcome, Complete, Ran}
 use Rattle.dxil_meaning.specs.Source.{Launch}
@@ -116,7 +117,7 @@ declarations =
 unfoldable pub module_of : List Inst → Module
 module_of body =
     record {
-      version = 0x10600;
+      version = V16;
       bound = 100;
       insts =
           declarations ++ (inst 54 (2 ∷ 1 ∷ 0 ∷ 3 ∷ []) ∷ inst 248 (20 ∷ []) ∷ body) ++ (inst 253 [] ∷ inst 56 [] ∷ []);
@@ -220,7 +221,7 @@ LengthIsStored =
 unfoldable pub swap_module : Module
 swap_module =
     record {
-      version = 0x10600;
+      version = V16;
       bound = 100;
       insts =
           inst 5 (21 ∷ 0x3162 ∷ []) ∷

@@ -7,6 +7,9 @@ use Rattle.std.proofs.lemmas.Option.{slice_get-get_or, slice_get_within, get_or_
 use Rattle.std.proofs.lemmas.List.Sums.{sum_by_more}
 use Rattle.dx_base.specs.First.{IsFirst, IsSound}
 use Rattle.spv_form.specs.declared.module.Inst.{Inst}
+use Rattle.spv_form.specs.declared.module.Version.{Version}
+use Rattle.spv_form.specs.declared.module.Version.TheVariants.{V13, V16}
+use Rattle.spv_form.specs.Versions.{version_word}
 use Rattle.spv_form.specs.Formed.{IsFormedInst}
 use Rattle.spv_form.specs.Words.{size_of, start_of, StandsAt}
 use Rattle.spv_form.specs.WordRules.{begin_of, Begins, Breaks, Broken, IsModule}
@@ -15,6 +18,11 @@ use Rattle.spv_form.specs.declared.fault.CheckFault.TheVariants.{Refused, OutOfM
 use Rattle.spv_form.specs.declared.fault.WordRule.TheVariants.{W, V, S}
 use Rattle.spirv_words.specs.Reading.{AreRead, IsHeader, IsLeastBreak, InstAnswer, InstsAnswer}
 use Rattle.spirv_words.proofs.InstLaws.{IsThere, there, listed_small, unbroken}
+
+-- a version's word is one of the two
+pub stated : (v : Version) (word : ℕ) → word ≡ version_word v → (word ≡ 0x0001_0600 → ⊥) → (word ≡ 0x0001_0300 → ⊥) → ⊥
+stated V13 word e n o = o e
+stated V16 word e n o = n e
 
 -- ---- where instructions begin
 pub nothing : Inst
@@ -63,12 +71,12 @@ module _ (words : List ℕ) (bound : ℕ) (insts : List Inst) (r : AreRead words
   pub begins_here : start_of insts (length insts) < length words → Begins words (start_of insts (length insts))
   begins_here h = record { index = length insts; is = begin-start (length insts) (omega arith); within = h }
 
-  module _ (header : IsHeader words bound) where
+  module _ (version : Version) (header : IsHeader words version bound) where
     broken-inst : (rule at : ℕ) → Broken words 0 rule at → Begins words at × Breaks words bound at rule
     broken-inst rule at (Broken.bytes_left_over n) = absurd (n refl)
     broken-inst rule at (Broken.header_missing h) = absurd (omega (arith, h, header.long))
     broken-inst rule at (Broken.other_magic n) = absurd (n header.magic)
-    broken-inst rule at (Broken.other_version n) = absurd (n header.version)
+    broken-inst rule at (Broken.other_version n o) = absurd (stated version (get_or words 1 0) header.states n o)
     broken-inst rule at (Broken.other_schema n) = absurd (n header.schema)
     broken-inst rule at (Broken.instruction g b) = (g, subst (λ limit. Breaks words limit at rule) header.limit b)
 
@@ -134,9 +142,9 @@ module _ (words : List ℕ) (bound : ℕ) (insts : List Inst) (x : Inst) (r : Ar
   within_more = (there words at x s (listed_small x.opcode f.shape f.listed)).ends
 
 -- what the reader of the instructions answers where it refuses one
-module _ (words : List ℕ) (bound : ℕ) (insts : List Inst) (r : AreRead words bound insts) (header : IsHeader words bound) where
+module _ (words : List ℕ) (bound : ℕ) (insts : List Inst) (r : AreRead words bound insts) (version : Version) (header : IsHeader words version bound) where
   pub insts_fault : (at : ℕ) (e : CheckFault) → at ≡ start_of insts (length insts) → at < length words → InstAnswer (Err e) words bound at → InstsAnswer (Err e) words bound
-  insts_fault at (Refused (W rule) word) place within a = subst (IsFirst (Broken words 0) rule) (sym a.0) (first_of_insts words bound insts r header at rule place within a.1)
+  insts_fault at (Refused (W rule) word) place within a = subst (IsFirst (Broken words 0) rule) (sym a.0) (first_of_insts words bound insts r version header at rule place within a.1)
   insts_fault at (Refused (V rule) word) place within a = a
   insts_fault at (Refused (S rule) word) place within a = a
   insts_fault at OutOfMemory place within a = tt
@@ -146,15 +154,15 @@ on_ok (Ok x) e p = p
 on_ok (Err x) e p = cc
 
 -- what was read is a module
-pub module_of : (words : List ℕ) (bound : ℕ) (insts : List Inst) → IsHeader words bound → AreRead words bound insts → length words ≡ start_of insts (length insts) → IsModule words (record { version = 0x0001_0600; bound = bound; insts = insts })
-module_of words bound insts h r e = record {
+pub module_of : (words : List ℕ) (version : Version) (bound : ℕ) (insts : List Inst) → IsHeader words version bound → AreRead words bound insts → length words ≡ start_of insts (length insts) → IsModule words (record { version = version; bound = bound; insts = insts })
+module_of words version bound insts h r e = record {
   layout = record {
     magic = slice_get-get_or words 0 0 (omega (arith, h.long)) ∙ ap (λ w. Some w) h.magic;
-    version = slice_get-get_or words 1 0 (omega (arith, h.long)) ∙ ap (λ w. Some w) h.version;
+    version = slice_get-get_or words 1 0 (omega (arith, h.long)) ∙ ap (λ w. Some w) h.states;
     bound = slice_get-get_or words 3 0 (omega (arith, h.long)) ∙ ap (λ w. Some w) h.limit;
     schema = slice_get-get_or words 4 0 (omega (arith, h.long)) ∙ ap (λ w. Some w) h.schema;
     each = r.each;
     ends = e;
   };
-  sound = sound_of_insts words bound insts r h e;
+  sound = sound_of_insts words bound insts r version h e;
 }

@@ -11,13 +11,16 @@ use Rattle.std.proofs.lemmas.Option.{get_or_from_slice_get}
 use Rattle.dx_base.specs.First.{IsFirst, IsSound}
 use Rattle.dx_base.specs.WordBytes.{bytes_of_words}
 use Rattle.spv_form.specs.declared.module.Inst.{Inst}
+use Rattle.spv_form.specs.declared.module.Version.{Version}
+use Rattle.spv_form.specs.declared.module.Version.TheVariants.{V13, V16}
+use Rattle.spv_form.specs.Versions.{version_word}
 use Rattle.spv_form.specs.declared.module.Module.{Module}
 use Rattle.spv_form.specs.declared.fault.CheckFault.{CheckFault}
 use Rattle.spv_form.specs.declared.fault.CheckFault.TheVariants.{Refused, OutOfMemory}
 use Rattle.spv_form.specs.declared.fault.WordRule.TheVariants.{W, V, S}
 use Rattle.spv_form.specs.Formed.{IsFormed}
 use Rattle.spv_form.specs.Words.{magic, start_of, IsLayout}
-use Rattle.spv_form.specs.WordRules.{inst_at, Broken, IsVersion}
+use Rattle.spv_form.specs.WordRules.{inst_at, Broken}
 use Rattle.spirv_words.specs.FileWords.{word_of, words_of}
 use Rattle.spirv_words.specs.Reading.{AreRead, IsHeader, ReadAnswer, WordsAnswer, ReadsBack, IsReadAs}
 use Rattle.spirv_words.proofs.FileWordLaws.{length-words_of, get_or-words_of}
@@ -74,31 +77,37 @@ same_insts words bound other xs ys r q e f =
     let down : length ys ≤ length xs = no_longer words other bound ys xs q r e in
     ext_get_or nothing xs ys (omega arith) (λ i h. same-inst words bound other xs ys r q i h (omega arith))
 
-same_module : (v w a b : ℕ) (xs ys : List Inst) → v ≡ w → a ≡ b → xs ≡ ys → ◌≡◌ {A = Module} (record { version = v; bound = a; insts = xs }) (record { version = w; bound = b; insts = ys })
+same_module : (v w : Version) (a b : ℕ) (xs ys : List Inst) → v ≡ w → a ≡ b → xs ≡ ys → ◌≡◌ {A = Module} (record { version = v; bound = a; insts = xs }) (record { version = w; bound = b; insts = ys })
 same_module v w a b xs ys e f g = cc
+
+same_version : (v w : Version) → version_word v ≡ version_word w → v ≡ w
+same_version V13 V13 e = refl
+same_version V13 V16 e = absurd (omega arith)
+same_version V16 V13 e = absurd (omega arith)
+same_version V16 V16 e = refl
 
 read_of : (words : List ℕ) (m : Module) → IsLayout words m → IsFormed m → AreRead words m.bound m.insts
 read_of words m l f = record { each = l.each; formed = f }
 
-header_of : (words : List ℕ) (m : Module) → IsLayout words m → IsVersion m.version → IsHeader words m.bound
-header_of words m l v = record {
+header_of : (words : List ℕ) (m : Module) → IsLayout words m → IsHeader words m.version m.bound
+header_of words m l = record {
   long = omega (arith, l.ends);
   magic = get_or_from_slice_get words 0 magic 0 l.magic;
-  version = get_or_from_slice_get words 1 m.version 0 l.version ∙ v;
+  states = get_or_from_slice_get words 1 (version_word m.version) 0 l.version;
   limit = get_or_from_slice_get words 3 m.bound 0 l.bound;
   schema = get_or_from_slice_get words 4 0 0 l.schema;
 }
 
 pub same_layout : (words : List ℕ) (m n : Module) → IsLayout words m → IsFormed m → IsLayout words n → IsFormed n → m ≡ n
 same_layout words m n l f k g =
-    same_module m.version n.version m.bound n.bound m.insts n.insts (sym (get_or_from_slice_get words 1 m.version 0 l.version) ∙ get_or_from_slice_get words 1 n.version 0 k.version)
+    same_module m.version n.version m.bound n.bound m.insts n.insts (same_version m.version n.version (sym (get_or_from_slice_get words 1 (version_word m.version) 0 l.version) ∙ get_or_from_slice_get words 1 (version_word n.version) 0 k.version))
     (sym (get_or_from_slice_get words 3 m.bound 0 l.bound) ∙ get_or_from_slice_get words 3 n.bound 0 k.bound) (same_insts words m.bound n.bound m.insts n.insts (read_of words m l f) (read_of words n k g) l.ends k.ends)
 
 -- ---- the words of a module break no rule, and are read as it
-pub sound_of_layout : (words : List ℕ) (m : Module) → IsLayout words m → IsFormed m → IsVersion m.version → IsSound (Broken words 0)
-sound_of_layout words m l f v = sound_of_insts words m.bound m.insts (read_of words m l f) (header_of words m l v) l.ends
+pub sound_of_layout : (words : List ℕ) (m : Module) → IsLayout words m → IsFormed m → IsSound (Broken words 0)
+sound_of_layout words m l f = sound_of_insts words m.bound m.insts (read_of words m l f) m.version (header_of words m l) l.ends
 
-module _ (bytes words : List ℕ) (m : Module) (small : All (λ w. w < 2 ^ 32) words) (e : bytes ≡ bytes_of_words words) (l : IsLayout words m) (f : IsFormed m) (v : IsVersion m.version) where
+module _ (bytes words : List ℕ) (m : Module) (small : All (λ w. w < 2 ^ 32) words) (e : bytes ≡ bytes_of_words words) (l : IsLayout words m) (f : IsFormed m) where
   words-are : words_of bytes ≡ words
   words-are = ap words_of e ∙ words_of-bytes_of_words words small
 
@@ -108,13 +117,13 @@ module _ (bytes words : List ℕ) (m : Module) (small : All (λ w. w < 2 ^ 32) w
   read_as : (result : Result Module CheckFault) → ReadAnswer result bytes → IsReadAs result m
   read_as (Ok r) a = let k : IsLayout words r = subst (λ ws. IsLayout ws r) words-are a.1.layout in same_layout words r m k a.2 l f
   read_as (Err (Refused (W rule) word)) a =
-      absurd ((sound_of_layout words m l f v).none rule word (subst (λ n. Broken words n rule word) none-over (subst (λ ws. Broken ws (length bytes % 4) rule word) words-are a.broken)))
+      absurd ((sound_of_layout words m l f).none rule word (subst (λ n. Broken words n rule word) none-over (subst (λ ws. Broken ws (length bytes % 4) rule word) words-are a.broken)))
   read_as (Err (Refused (V rule) word)) a = absurd a
   read_as (Err (Refused (S rule) word)) a = absurd a
   read_as (Err OutOfMemory) a = refl
 
 pub reads_back : (result : Result Module CheckFault) (bytes : List ℕ) → ReadAnswer result bytes → ReadsBack result bytes
-reads_back result bytes a = λ m words small e l f v. read_as bytes words m small e l f v result a
+reads_back result bytes a = λ m words small e l f. read_as bytes words m small e l f result a
 
 -- the answer over the bytes is the one over their words, where no byte is left over
 pub read_of_words : (result : Result Module CheckFault) (bytes : List ℕ) → length bytes % 4 ≡ 0 → WordsAnswer result (words_of bytes) → ReadAnswer result bytes

@@ -8,6 +8,7 @@ use Rattle.std.proofs.Math.Nat.{mod-eq_of_lt}
 use Rattle.std.proofs.Math.Seq.{take-length}
 use Rattle.spv_form.specs.declared.module.Inst.{Inst}
 use Rattle.spv_form.specs.declared.module.Module.{Module}
+use Rattle.spv_form.specs.Versions.{version_word}
 use Rattle.spv_form.specs.Words.{magic, size_of, start_of, StandsAt, IsLayout}
 use Rattle.spirv_words.specs.Written.{inst_words}
 
@@ -60,16 +61,16 @@ length-written (x ∷ xs) =
     omega (arith, words, length-append (inst_words x) (flat_map inst_words xs), sum_by-cons size_of x xs, more)
 
 -- the header and the instructions are the words of the module
-pub layout_of : (m : Module) → IsLayout ((magic ∷ m.version ∷ 0 ∷ m.bound ∷ 0 ∷ []) ++ flat_map inst_words m.insts) m
+pub layout_of : (m : Module) → IsLayout ((magic ∷ version_word m.version ∷ 0 ∷ m.bound ∷ 0 ∷ []) ++ flat_map inst_words m.insts) m
 layout_of m =
     let whole : take (length m.insts) m.insts ≡ m.insts = take-length m.insts in
-    let long : length ((magic ∷ m.version ∷ 0 ∷ m.bound ∷ 0 ∷ []) ++ flat_map inst_words m.insts) ≡ start_of m.insts (length m.insts) =
-    rw whole (omega (arith, length-append (magic ∷ m.version ∷ 0 ∷ m.bound ∷ 0 ∷ []) (flat_map inst_words m.insts), length-written m.insts)) in
+    let long : length ((magic ∷ version_word m.version ∷ 0 ∷ m.bound ∷ 0 ∷ []) ++ flat_map inst_words m.insts) ≡ start_of m.insts (length m.insts) =
+    rw whole (omega (arith, length-append (magic ∷ version_word m.version ∷ 0 ∷ m.bound ∷ 0 ∷ []) (flat_map inst_words m.insts), length-written m.insts)) in
     record {
       magic = refl;
       version = refl;
       bound = refl;
       schema = refl;
-      each = stand_behind (magic ∷ m.version ∷ 0 ∷ m.bound ∷ 0 ∷ []) m.insts;
+      each = stand_behind (magic ∷ version_word m.version ∷ 0 ∷ m.bound ∷ 0 ∷ []) m.insts;
       ends = long;
     }

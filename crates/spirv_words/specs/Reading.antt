@@ -5,13 +5,16 @@ use Rattle.dx_base.specs.WordBytes.{bytes_of_words}
 use Rattle.spv_form.specs.declared.shape.Shape.{Shape}
 use Rattle.spv_form.specs.declared.module.Inst.{Inst}
 use Rattle.spv_form.specs.declared.module.Module.{Module}
+use Rattle.spv_form.specs.declared.module.Version.{Version}
 use Rattle.spv_form.specs.declared.fault.CheckFault.{CheckFault}
 use Rattle.spv_form.specs.declared.fault.CheckFault.TheVariants.{Refused, OutOfMemory}
 use Rattle.spv_form.specs.declared.fault.WordRule.TheVariants.{W, V, S}
 use Rattle.spv_form.specs.Operands.{is_id}
 use Rattle.spv_form.specs.Formed.{IsFormed, IsFormedInst, IsIdBelow}
 use Rattle.spv_form.specs.Words.{magic, start_of, StandsAt, IsLayout}
-use Rattle.spv_form.specs.WordRules.{Breaks, Broken, IsModule, IsVersion}
+use Rattle.spv_form.specs.WordRules.{Breaks, Broken, IsModule}
+use Rattle.spv_form.specs.Versions.{version_word}
+use Rattle.spirv_words.specs.declared.header.Header.{Header}
 use Rattle.spirv_words.specs.FileWords.{words_of}
 use Rattle.spirv_words.specs.Written.{AreWords}
 
@@ -28,9 +31,9 @@ abbrev pub IsReadAs : Result Module CheckFault → Module → Type 0
 IsReadAs (Ok read) m = read ≡ m
 IsReadAs (Err e) m = e ≡ OutOfMemory
 
--- The bytes of the words of a module that is as its opcodes say, and of a version that may be read, are read as this module.
+-- The bytes of the words of a module that is as its opcodes say are read as this module.
 abbrev pub ReadsBack : Result Module CheckFault → List ℕ → Type 0
-ReadsBack result bytes = (m : Module) (words : List ℕ) → AreWords words → bytes ≡ bytes_of_words words → IsLayout words m → IsFormed m → IsVersion m.version → IsReadAs result m
+ReadsBack result bytes = (m : Module) (words : List ℕ) → AreWords words → bytes ≡ bytes_of_words words → IsLayout words m → IsFormed m → IsReadAs result m
 
 -- ---- of the parts
 
@@ -41,16 +44,16 @@ WordsAnswer (Err (Refused (V rule) word)) words = ⊥
 WordsAnswer (Err (Refused (S rule) word)) words = ⊥
 WordsAnswer (Err OutOfMemory) words = Unit {0}
 
--- the header of a module, with this bound
-pub record IsHeader (words : List ℕ) (bound : ℕ) : Type 0 where
+-- the header of a module of this version and with this bound
+pub record IsHeader (words : List ℕ) (version : Version) (bound : ℕ) : Type 0 where
   pub long : 5 ≤ length words
   pub magic : get_or words 0 0 ≡ magic
-  pub version : IsVersion (get_or words 1 0)
+  pub states : get_or words 1 0 ≡ version_word version
   pub limit : get_or words 3 0 ≡ bound
   pub schema : get_or words 4 0 ≡ 0
 
-abbrev pub HeaderAnswer : Result ℕ CheckFault → List ℕ → Type 0
-HeaderAnswer (Ok bound) words = IsHeader words bound
+abbrev pub HeaderAnswer : Result Header CheckFault → List ℕ → Type 0
+HeaderAnswer (Ok header) words = IsHeader words header.version header.bound
 HeaderAnswer (Err (Refused (W rule) word)) words = IsFirst (Broken words 0) rule word
 HeaderAnswer (Err (Refused (V rule) word)) words = ⊥
 HeaderAnswer (Err (Refused (S rule) word)) words = ⊥

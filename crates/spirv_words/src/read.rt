@@ -4,16 +4,16 @@ ghost use Rattle.spv_form.specs.declared.fault.WordRule.TheVariants.{W};
 ghost use Rattle.spirv_words.specs.Reading.{ReadAnswer, ReadsBack, WordsAnswer, HeaderAnswer, InstAnswer, InstsAnswer, IsHeader};
 
 use crate::file_words::FileWords;
-use crate::header;
+use crate::header::{self, Header};
 use crate::operands::{bad_id, fits, string_ends};
 use dx_base::{List, OutOfMemory};
-use spv_form::{CheckFault, Inst, InstList, Module, Operands, VERSION_1_6, WordRule, shape_of};
+use spv_form::{CheckFault, Inst, InstList, Module, Operands, Version, WordRule, shape_of};
 use std::alloc::Global;
 
 /// The module that the words of a file hold.
 ///
-/// A refusal is the broken rule W of least word, and there of least number. The words that `write_module` made of a module of
-/// version 1.6, as bytes, give that module again.
+/// A refusal is the broken rule W of least word, and there of least number. The bytes of the words that `write_module` made of a
+/// module, which are at most 2^24 here, give that module again.
 pub fn read_module(alloc: Global, bytes: &[u8]) -> Result<Module, CheckFault>
     requires { length bytes.now ≤ 2 ^ 26 }
     ensures exact { ReadAnswer result bytes.now }
@@ -34,11 +34,11 @@ fn read_words(alloc: Global, words: &FileWords) -> Result<Module, CheckFault>
     if words.len() < header::LENGTH {
         return Err(refused(1, 0));
     }
-    let bound = read_header(words)?;
-    let insts = read_insts(alloc, words, bound)?;
+    let header = read_header(words)?;
+    let insts = read_insts(alloc, words, header)?;
     Ok(Module {
-        version: VERSION_1_6,
-        bound,
+        version: header.version,
+        bound: header.bound,
         insts,
     })
 }
@@ -54,33 +54,36 @@ fn refused(rule: u8, word: usize) -> CheckFault
     }
 }
 
-/// The bound in the header.
-fn read_header(words: &FileWords) -> Result<u32, CheckFault>
+/// The header.
+fn read_header(words: &FileWords) -> Result<Header, CheckFault>
     requires { 5 ≤ length words.now }
     ensures { HeaderAnswer result words.now }
 {
     if words.at(0) != header::MAGIC {
         return Err(refused(2, 0));
     }
-    if words.at(1) != VERSION_1_6 {
+    let Some(version) = Version::of_word(words.at(1)) else {
         return Err(refused(3, 1));
-    }
+    };
     if words.at(4) != header::SCHEMA {
         return Err(refused(4, 4));
     }
-    Ok(words.at(3))
+    Ok(Header {
+        version,
+        bound: words.at(3),
+    })
 }
 
 /// The instructions behind the header.
-fn read_insts(alloc: Global, words: &FileWords, bound: u32) -> Result<InstList, CheckFault>
+fn read_insts(alloc: Global, words: &FileWords, header: Header) -> Result<InstList, CheckFault>
     requires few { length words.now ≤ 2 ^ 24 }
-    requires header { IsHeader words.now bound }
-    ensures { InstsAnswer result words.now bound }
+    requires header { IsHeader words.now header.version header.bound }
+    ensures { InstsAnswer result words.now header.bound }
 {
     let mut insts = List::new(alloc);
     let mut at = header::LENGTH;
     while at < words.len() {
-        let inst = read_inst(alloc, words, at, bound)?;
+        let inst = read_inst(alloc, words, at, header.bound)?;
         at += 1 + inst.operands.len();
         if insts.push(inst).is_err() {
             return Err(CheckFault::OutOfMemory);

@@ -1,7 +1,6 @@
 ghost use Rattle.std.specs.Prelude.{◌≡◌, ◌+◌, ◌*◌, ◌^◌, ◌++◌, ◌<◌, length, IfOk, OnOk, slice_get, Some};
 ghost use Rattle.spv_form.specs.Formed.{IsFormed};
-ghost use Rattle.spv_form.specs.Words.{IsLayout};
-ghost use Rattle.spv_form.specs.WordRules.{IsModule, IsVersion};
+ghost use Rattle.spv_form.specs.WordRules.{IsModule};
 ghost use Rattle.spirv_words.specs.Written.{inst_words, AreWords};
 
 use crate::header;
@@ -11,12 +10,11 @@ use std::alloc::Global;
 
 /// The words of a module: its header, and then each instruction.
 ///
-/// They are below 2^32, so `read_module` of their bytes gives the module again.
+/// Where they are at most 2^24, `read_module` of their bytes gives the module again.
 pub fn write_module(alloc: Global, m: &Module) -> Result<Words, OutOfMemory>
     requires { IsFormed m.now }
-    ensures layout { IfOk result (λ words. IsLayout words m.now) }
+    ensures module { IfOk result (λ words. IsModule words m.now) }
     ensures generator { IfOk result (λ words. slice_get words 2 ≡ Some 0) }
-    ensures sound { IsVersion m.now.version → IfOk result (λ words. IsModule words m.now) }
     ensures words { IfOk result AreWords }
 {
     let mut words = List::new(alloc);
@@ -24,7 +22,7 @@ pub fn write_module(alloc: Global, m: &Module) -> Result<Words, OutOfMemory>
         &mut words,
         &[
             header::MAGIC,
-            m.version,
+            m.version.word(),
             header::GENERATOR,
             m.bound,
             header::SCHEMA,

@@ -8,10 +8,6 @@ use Rattle.spv_form.specs.Shapes.{shape_of}
 use Rattle.spv_form.specs.Operands.{fits, string_ends, is_id}
 use Rattle.spv_form.specs.Words.{magic, IsLayout}
 
--- a version that a module may have: 1.6
-abbrev pub IsVersion : ℕ → Type 0
-IsVersion version = version ≡ 0x0001_0600
-
 -- the size that the first word of an instruction states, and the instruction that stands there by it
 abbrev pub size_at : List ℕ → ℕ → ℕ
 size_at words at = get_or words at 0 / 2 ^ 16
@@ -52,8 +48,8 @@ pub data Broken (words : List ℕ) (rest : ℕ) : ℕ → ℕ → Type 0 where
   header_missing : length words < 5 → Broken words rest 1 0
   -- W2: the magic number
   other_magic : (get_or words 0 0 ≡ magic → ⊥) → Broken words rest 2 0
-  -- W3: the version
-  other_version : (IsVersion (get_or words 1 0) → ⊥) → Broken words rest 3 1
+  -- W3: the version is neither 1.6 nor 1.3
+  other_version : (get_or words 1 0 ≡ 0x0001_0600 → ⊥) → (get_or words 1 0 ≡ 0x0001_0300 → ⊥) → Broken words rest 3 1
   -- W4: the last word of the header is not 0
   other_schema : (get_or words 4 0 ≡ 0 → ⊥) → Broken words rest 4 4
   -- W5 to W9

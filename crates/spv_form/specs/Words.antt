@@ -2,6 +2,7 @@
 use Rattle.std.specs.Prelude.{ℕ, ◌≡◌, ◌+◌, ◌*◌, ◌^◌, List, length, take, drop, slice_get, Some, sum_by}
 use Rattle.spv_form.specs.declared.module.Inst.{Inst}
 use Rattle.spv_form.specs.declared.module.Module.{Module}
+use Rattle.spv_form.specs.Versions.{version_word}
 
 abbrev pub magic : ℕ
 magic = 0x0723_0203
@@ -22,7 +23,7 @@ pub record StandsAt (words : List ℕ) (at : ℕ) (x : Inst) : Type 0 where
 -- The words of a module with any generator, which is word 2.
 pub record IsLayout (words : List ℕ) (m : Module) : Type 0 where
   pub magic : slice_get words 0 ≡ Some magic
-  pub version : slice_get words 1 ≡ Some m.version
+  pub version : slice_get words 1 ≡ Some (version_word m.version)
   pub bound : slice_get words 3 ≡ Some m.bound
   pub schema : slice_get words 4 ≡ Some 0
   pub each : (i : ℕ) (x : Inst) → slice_get m.insts i ≡ Some x → StandsAt words (start_of m.insts i) x

@@ -8,6 +8,6 @@ mod operands;
 mod shape;
 
 pub use fault::{CheckFault, WordRule};
-pub use module::{Inst, InstList, Module, VERSION_1_6};
+pub use module::{Inst, InstList, Module, Version};
 pub use operands::Operands;
 pub use shape::{Shape, shape_of};

@@ -6,9 +6,9 @@ use Rattle.spv_form.specs.declared.module.Inst.{Inst}
 use Rattle.spv_form.specs.Shapes.{is_from}
 use Rattle.spv_ids.specs.Roles.{operand}
 use Rattle.type_rules.specs.Types.{is_defined_as, is_int, is_bool}
-use Rattle.type_rules.specs.Values.{value_type, has_type, is_int_value, is_bool_value, is_constant, is_label, pointer_type, pointer_of, points_to, points_to_int, leads}
+use Rattle.type_rules.specs.Values.{value_type, has_type, is_int_value, is_bool_value, is_constant, is_label, pointer_type, pointer_of, points_to, points_to_int, points_to_runtime_array, leads}
 use Rattle.type_rules.specs.declared.group.Group.{Group}
-use Rattle.type_rules.specs.declared.group.Group.TheVariants.{Arithmetic, Bits, Compare, Logic, Not, Select, Truth, Number, Function, Variable, Load, Store, Chain, Extract, Atomic, Exchange, ControlBarrier, MemoryBarrier, LoopMerge, Target, Conditional, Switch, Other}
+use Rattle.type_rules.specs.declared.group.Group.TheVariants.{Arithmetic, Bits, Compare, Logic, Not, Select, Truth, Number, Function, Variable, Load, Store, Chain, Length, Extract, Atomic, Exchange, ControlBarrier, MemoryBarrier, LoopMerge, Target, Conditional, Switch, Other}
 
 unfoldable pub group_of : ℕ → Group
 group_of op =
@@ -36,6 +36,8 @@ group_of op =
     if op == 62 then Store else
     -- AccessChain
     if op == 65 then Chain else
+    -- ArrayLength
+    if op == 68 then Length else
     -- CompositeExtract
     if op == 81 then Extract else
     -- AtomicExchange, and atomic IAdd, ISub, SMin, UMin, SMax, UMax, And, Or, Xor
@@ -84,6 +86,10 @@ unfoldable pub chain_fits : List Inst → Inst → Bool
 chain_fits insts x = nat_le 3 (length x.operands) && option_map_or (λ pointer. option_map_or (λ base.
     operand pointer 1 == operand base 1 && leads_to insts x base pointer) (pointer_of insts (operand x 2)) false) (pointer_type insts (operand x 0)) false
 
+-- ArrayLength: type, result, pointer and number. The type is the integer, the pointer is to a structure of one runtime array, and the number is that of its member, 0.
+unfoldable pub length_fits : List Inst → Inst → Bool
+length_fits insts x = is_int insts (operand x 0) && (points_to_runtime_array insts (operand x 2) && operand x 3 == 0)
+
 -- CompositeExtract: type, result, vector and number. The type is the integer that the vector has, and the number is below its count.
 unfoldable pub extract_fits : List Inst → Inst → Bool
 extract_fits insts x = is_int insts (operand x 0) && option_map_or (λ t. is_defined_as insts t (λ v.
@@ -122,6 +128,7 @@ fits_as insts x Variable = variable_fits insts x
 fits_as insts x Load = points_to insts (operand x 0) (operand x 2)
 fits_as insts x Store = store_fits insts x
 fits_as insts x Chain = chain_fits insts x
+fits_as insts x Length = length_fits insts x
 fits_as insts x Extract = extract_fits insts x
 fits_as insts x Atomic = atomic_fits insts x && is_int_value insts (operand x 5)
 fits_as insts x Exchange = atomic_fits insts x && exchange_fits insts x

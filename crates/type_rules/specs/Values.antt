@@ -1,5 +1,5 @@
 -- What the values of a module are, by the first definitions of their ids.
-use Rattle.std.specs.Prelude.{ℕ, ◌==◌, ◌&&◌, List, [], ◌∷◌, Bool, false, Option, Some, None, if◌then◌else◌, option_and_then}
+use Rattle.std.specs.Prelude.{ℕ, ◌==◌, ◌&&◌, List, [], ◌∷◌, Bool, false, length, Option, Some, None, if◌then◌else◌, option_and_then}
 use Rattle.std.specs.Option.{option_map_or}
 use Rattle.spv_form.specs.declared.module.Inst.{Inst}
 use Rattle.spv_ids.specs.Roles.{operand, type_of}
@@ -44,6 +44,17 @@ points_to insts t v = option_map_or (λ p. operand p 2 == t) (pointer_of insts v
 
 unfoldable pub points_to_int : List Inst → ℕ → Bool
 points_to_int insts v = option_map_or (λ p. is_int insts (operand p 2)) (pointer_of insts v) false
+
+unfoldable pub is_runtime_array : List Inst → ℕ → Bool
+is_runtime_array insts t = is_defined_as insts t (λ x. x.opcode == 29)
+
+-- TypeStruct: result, members. It has one, which is a runtime array.
+unfoldable pub holds_runtime_array : List Inst → ℕ → Bool
+holds_runtime_array insts t = is_defined_as insts t (λ x. x.opcode == 30 && (length x.operands == 2 && is_runtime_array insts (operand x 1)))
+
+-- the value is a pointer to such a structure
+unfoldable pub points_to_runtime_array : List Inst → ℕ → Bool
+points_to_runtime_array insts v = option_map_or (λ p. holds_runtime_array insts (operand p 2)) (pointer_of insts v) false
 
 -- The type behind one index: a structure's one member, by the constant 0; an array's or a vector's element, by an integer.
 unfoldable pub behind : List Inst → ℕ → ℕ → Option ℕ

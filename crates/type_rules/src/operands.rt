@@ -7,7 +7,7 @@ use crate::group::{Group, group_of};
 use crate::types::{is_bool, is_int};
 use crate::values::{
     has_type, is_bool_value, is_constant, is_int_value, is_label, leads, pointer_of, pointer_type,
-    points_to, points_to_int, value_type,
+    points_to, points_to_int, points_to_runtime_array, value_type,
 };
 use spv_form::{Inst, op};
 use spv_ids::{Ids, operand};
@@ -100,6 +100,15 @@ fn chain_fits(ids: &Ids, inst: &Inst) -> bool
     }
 }
 
+#[tactic(auto, unfolding(crate::specs::Fits::length_fits))]
+fn length_fits(ids: &Ids, inst: &Inst) -> bool
+    ensures { result ≡ asked.length_fits ids.now inst.now }
+{
+    is_int(ids, operand(inst, 0))
+        && points_to_runtime_array(ids, operand(inst, 2))
+        && operand(inst, 3) == 0
+}
+
 #[tactic(auto, unfolding(crate::specs::Fits::extract_fits))]
 fn extract_fits(ids: &Ids, inst: &Inst) -> bool
     ensures { result ≡ asked.extract_fits ids.now inst.now }
@@ -178,6 +187,7 @@ pub fn fits(ids: &Ids, inst: &Inst) -> bool
         Group::Load => points_to(ids, ty, operand(inst, 2)),
         Group::Store => store_fits(ids, inst),
         Group::Chain => chain_fits(ids, inst),
+        Group::Length => length_fits(ids, inst),
         Group::Extract => extract_fits(ids, inst),
         Group::Atomic => atomic_fits(ids, inst) && is_int_value(ids, operand(inst, 5)),
         Group::Exchange => atomic_fits(ids, inst) && exchange_fits(ids, inst),

@@ -135,6 +135,43 @@ pub fn points_to_int(ids: &Ids, value: u32) -> bool
     }
 }
 
+/// Whether the id is a runtime array.
+#[tactic(auto, unfolding(crate::specs::Values::is_runtime_array))]
+fn is_runtime_array(ids: &Ids, ty: u32) -> bool
+    ensures { result ≡ values.is_runtime_array ids.now ty }
+{
+    match ids.definition(ty) {
+        Some(inst) => inst.opcode == op::TYPE_RUNTIME_ARRAY,
+        None => false,
+    }
+}
+
+/// Whether the id is a structure of one runtime array.
+#[tactic(auto, unfolding(crate::specs::Values::holds_runtime_array))]
+fn holds_runtime_array(ids: &Ids, ty: u32) -> bool
+    ensures { result ≡ values.holds_runtime_array ids.now ty }
+{
+    match ids.definition(ty) {
+        Some(inst) => {
+            inst.opcode == op::TYPE_STRUCT
+                && inst.operands.len() == 2
+                && is_runtime_array(ids, operand(inst, 1))
+        }
+        None => false,
+    }
+}
+
+/// Whether the value is a pointer to a structure of one runtime array.
+#[tactic(auto, unfolding(crate::specs::Values::points_to_runtime_array))]
+pub fn points_to_runtime_array(ids: &Ids, value: u32) -> bool
+    ensures { result ≡ values.points_to_runtime_array ids.now value }
+{
+    match pointer_of(ids, value) {
+        Some(pointer) => holds_runtime_array(ids, operand(pointer, 2)),
+        None => false,
+    }
+}
+
 /// The type behind one index of a type.
 #[tactic(auto, unfolding(crate::specs::Values::behind))]
 fn behind(ids: &Ids, ty: u32, index: u32) -> Option<u32>

@@ -19,7 +19,9 @@ returns-in-Some c =
     let ids : c.in-Ok.tables.ids ≡ c.args.m.now.insts = c.in-Ok.ensures.insts ∙ c.as_slice.ensures in
     elim c.match-rule_at_start.branch [
       | in-Ok-rule_at_start w ↦ rw (w.result-is, w.refused-in-Ok-rule_at_start.ensures)
-          (at_start c.args.m.now w.in-Ok-rule_at_start.rule c.if-m-gt-MOST_BOUND.false (subst (λ (l : List Inst). IsLeastAtStart l w.in-Ok-rule_at_start.rule) ids w.in-Ok-rule_at_start.ensures))
+          (at_start c.args.m.now w.in-Ok-rule_at_start.rule c.if-m-gt-MOST_BOUND.false
+          (subst (λ v. IsLeastAtStart v c.args.m.now.insts w.in-Ok-rule_at_start.rule) c.in-Ok.ensures.version
+          (subst (λ (l : List Inst). IsLeastAtStart c.in-Ok.tables.version l w.in-Ok-rule_at_start.rule) ids w.in-Ok-rule_at_start.ensures)))
       | in-Err w ↦ rw w.result-is tt
     ]
 
@@ -29,4 +31,4 @@ returns c =
     let landmarks : c.in-Ok.tables.landmarks ≡ c.args.m.now.insts = c.in-Ok.ensures.exact.landmarks_are ∙ ids in
     alone c.args.m.now _ c.if-m-gt-MOST_BOUND.false
     (subst (λ (l : List Inst). FindsMissing l None) landmarks (subst (λ o. FindsMissing c.in-Ok.tables.landmarks o) c.in_default-missing_rule.is c.missing_rule.ensures))
-    (subst (λ (l : List Inst). EachAnswer c.each_rule.result l) ids c.each_rule.ensures)
+    (subst (λ v. EachAnswer c.each_rule.result v c.args.m.now.insts) c.in-Ok.ensures.version (subst (λ (l : List Inst). EachAnswer c.each_rule.result c.in-Ok.tables.version l) ids c.each_rule.ensures))

@@ -8,7 +8,7 @@ pub returns-in_err-inst : goal.returns-in_err-inst
 returns-in_err-inst c =
     let p = err_from_is_err_and c.from_residual.result c.from_residual.ensures.1 in
     rw (p.1, p.2)
-    (insts_fault c.args.words.now c.args.bound c.loop-at.insts c.loop-at.invariant.read c.requires.header c.loop-at.at c.in_err-inst.field-0.0 c.loop-at.invariant.place (omega (arith, c.loop-at-test.true, c.len.ensures)) c.in_err-inst.ensures)
+    (insts_fault c.args.words.now c.args.header.bound c.loop-at.insts c.loop-at.invariant.read c.args.header.version c.requires.header c.loop-at.at c.in_err-inst.field-0.0 c.loop-at.invariant.place (omega (arith, c.loop-at-test.true, c.len.ensures)) c.in_err-inst.ensures)
 
 pub loop-at-preserved : goal.loop-at-preserved
 loop-at-preserved c =
@@ -16,7 +16,7 @@ loop-at-preserved c =
     let size : c.loop-at.at + (1 + c.len-in-loop-at.result) ≡ c.loop-at.at + size_of c.in_ok-inst.inst = ap (λ n. c.loop-at.at + (1 + n)) c.len-in-loop-at.ensures in
     rw (pushed, size)
     (record {
-      read = read_more c.args.words.now c.args.bound c.loop-at.insts c.in_ok-inst.inst c.loop-at.invariant.read c.loop-at.at c.loop-at.invariant.place c.in_ok-inst.ensures.0 c.in_ok-inst.ensures.1;
-      place = start_more c.args.words.now c.args.bound c.loop-at.insts c.in_ok-inst.inst c.loop-at.invariant.read c.loop-at.at c.loop-at.invariant.place c.in_ok-inst.ensures.0 c.in_ok-inst.ensures.1;
-      within = within_more c.args.words.now c.args.bound c.loop-at.insts c.in_ok-inst.inst c.loop-at.invariant.read c.loop-at.at c.loop-at.invariant.place c.in_ok-inst.ensures.0 c.in_ok-inst.ensures.1;
+      read = read_more c.args.words.now c.args.header.bound c.loop-at.insts c.in_ok-inst.inst c.loop-at.invariant.read c.loop-at.at c.loop-at.invariant.place c.in_ok-inst.ensures.0 c.in_ok-inst.ensures.1;
+      place = start_more c.args.words.now c.args.header.bound c.loop-at.insts c.in_ok-inst.inst c.loop-at.invariant.read c.loop-at.at c.loop-at.invariant.place c.in_ok-inst.ensures.0 c.in_ok-inst.ensures.1;
+      within = within_more c.args.words.now c.args.header.bound c.loop-at.insts c.in_ok-inst.inst c.loop-at.invariant.read c.loop-at.at c.loop-at.invariant.place c.in_ok-inst.ensures.0 c.in_ok-inst.ensures.1;
     })

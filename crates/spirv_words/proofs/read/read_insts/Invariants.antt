@@ -5,7 +5,7 @@ use Rattle.spirv_words.proofs.read.read_insts.Given as goal
 
 abbrev pub invariant-loop-at : goal.invariant-loop-at
 invariant-loop-at l = record {
-  read : AreRead l.words l.bound l.insts;
+  read : AreRead l.words l.header.bound l.insts;
   place : l.at ≡ start_of l.insts (length l.insts);
   within : l.at ≤ length l.words;
 }

@@ -8,4 +8,4 @@ pub returns-then-len-lt-LENGTH : goal.returns-then-len-lt-LENGTH
 returns-then-len-lt-LENGTH c = rw c.refused.ensures (first_is_cut c.args.words.now 0 (Broken.header_missing (omega (arith, c.if-len-lt-LENGTH.true, c.len.ensures))))
 
 pub returns : goal.returns
-returns c = (module_of c.args.words.now c.in_ok-bound.bound c.in_ok-insts.insts c.in_ok-bound.ensures c.in_ok-insts.ensures.0 c.in_ok-insts.ensures.1, c.in_ok-insts.ensures.0.formed)
+returns c = (module_of c.args.words.now c.in_ok-header.header.version c.in_ok-header.header.bound c.in_ok-insts.insts c.in_ok-header.ensures c.in_ok-insts.ensures.0 c.in_ok-insts.ensures.1, c.in_ok-insts.ensures.0.formed)

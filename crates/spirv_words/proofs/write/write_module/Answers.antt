@@ -1,4 +1,4 @@
-use Rattle.std.proofs.Common.{◌≡◌, ◌<◌, ◌^◌, ◌∷◌, ◌++◌, [], ℕ, List, ap, arith, subst, sym, ◌∙◌, take}
+use Rattle.std.proofs.Common.{◌≡◌, ◌<◌, ◌^◌, ◌∷◌, ◌++◌, [], ℕ, List, ap, arith, refl, subst, sym, ◌∙◌, take}
 use Rattle.std.specs.List.{flat_map}
 use Rattle.std.proofs.lemmas.List.{take_all}
 use Rattle.std.proofs.lemmas.List.Elements.{All-append}
@@ -6,6 +6,7 @@ use Rattle.std.proofs.lemmas.Grind.{common_steps}
 use Rattle.spv_form.specs.declared.module.Inst.{Inst}
 use Rattle.spv_form.specs.declared.module.Module.{Module}
 use Rattle.spv_form.specs.Words.{magic, IsLayout}
+use Rattle.spv_form.specs.Versions.{version_word}
 use Rattle.spirv_words.specs.Written.{inst_words, AreWords}
 use Rattle.spirv_words.proofs.WrittenLaws.{layout_of}
 use Rattle.spirv_words.proofs.RoundTrip.{sound_of_layout}
@@ -13,22 +14,20 @@ use Rattle.spirv_words.proofs.write.write_module.Goals as goal
 use Rattle.spirv_words.proofs.write.write_module.Goals.{After-loop-inst}
 
 header : Module → List ℕ
-header m = magic ∷ m.version ∷ 0 ∷ m.bound ∷ 0 ∷ []
+header m = magic ∷ version_word m.version ∷ 0 ∷ m.bound ∷ 0 ∷ []
 
 laid-out : (c : After-loop-inst) → IsLayout c.loop-inst.words c.args.m.now
 unfolding header
 laid-out c =
-    let begun : c.append.new.words ≡ header c.args.m.now = c.in_ok-append.ensures.added ∙ ap (λ ws. ws ++ header c.args.m.now) c.new-words.ensures in
+    let made : c.new-words.result ++ magic ∷ c.word.result ∷ 0 ∷ c.args.m.now.bound ∷ 0 ∷ [] ≡ header c.args.m.now = rw (c.new-words.ensures, c.word.ensures) refl in
+    let begun : c.append.new.words ≡ header c.args.m.now = c.in_ok-append.ensures.added ∙ made in
     let all : take c.loop-inst.inst-index c.as_slice-inst-items.result.now ≡ c.args.m.now.insts = take_all c.loop-inst.inst-index c.as_slice-inst-items.result.now c.loop-inst-test.false ∙ c.as_slice-inst-items.ensures in
     let words : c.loop-inst.words ≡ header c.args.m.now ++ flat_map inst_words c.args.m.now.insts =
     c.loop-inst.invariant.written ∙ ap (λ ws. ws ++ flat_map inst_words (take c.loop-inst.inst-index c.as_slice-inst-items.result.now)) begun ∙ ap (λ (xs : List Inst). header c.args.m.now ++ flat_map inst_words xs) all in
     subst (λ ws. IsLayout ws c.args.m.now) (sym words) (layout_of c.args.m.now)
 
-pub returns-clause-layout : goal.returns-clause-layout
-returns-clause-layout c = laid-out c
-
-pub returns-clause-sound : goal.returns-clause-sound
-returns-clause-sound c = λ version. record { layout = laid-out c; sound = sound_of_layout c.loop-inst.words c.args.m.now (laid-out c) c.requires version }
+pub returns-clause-module : goal.returns-clause-module
+returns-clause-module c = record { layout = laid-out c; sound = sound_of_layout c.loop-inst.words c.args.m.now (laid-out c) c.requires }
 
 pub loop-inst-preserved : goal.loop-inst-preserved
 loop-inst-preserved c = record {

@@ -1,6 +1,0 @@
-use Rattle.std.proofs.Common.{arith}
-use Rattle.spirv_words.proofs.FileWordLaws.{length-words_of}
-use Rattle.module_tests.proofs.rules.answer.Goals as goal
-
-pub check_rules-requires-clause-short : goal.check_rules-requires-clause-short
-check_rules-requires-clause-short c = omega (arith, c.in_ok-module.ensures.exact.1.layout.ends, length-words_of c.args.bytes.now)
