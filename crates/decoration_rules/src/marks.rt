@@ -10,7 +10,7 @@ use std::alloc::Global;
 use std::collections::BTreeMap;
 use std::marker::Model;
 
-/// The decorations, by their numbers in SPIR-V 1.6, section 3.20.
+/// The decorations, by their numbers in SPIR-V 1.6, "Decoration".
 mod kind {
     pub const BLOCK: u32 = 2;
 

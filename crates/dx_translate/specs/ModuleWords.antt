@@ -1,4 +1,4 @@
--- The SPIR-V words of the empty shader (SPIR-V specification, sections 2.3 and 3).
+-- The SPIR-V words of the empty shader (SPIR-V 1.6, sections 2.3 and 3).
 use Rattle.std.specs.Prelude.{ℕ, ◌+◌, ◌*◌, ◌^◌, List, [], ◌∷◌, ◌++◌, length}
 
 -- an instruction's words: its number of words and its opcode, and its operands

@@ -1,4 +1,4 @@
--- The blocks of a module's function (SPIR-V 1.6, sections 2.2.5 and 3.49.17): a block is a label and what follows it up to a terminator. Blocks are named
+-- The blocks of a module's function (SPIR-V 1.6, section 2.2.5 and "Control-Flow Instructions"): a block is a label and what follows it up to a terminator. Blocks are named
 -- by the ids of their labels.
 use Rattle.std.specs.Prelude.{ℕ, ◌+◌, ◌==◌, List, [], ◌∷◌, ◌++◌, drop, get_or, Option, Some, None, if◌then◌else◌}
 use Rattle.spv_form.specs.declared.module.Inst.{Inst}

@@ -1,4 +1,4 @@
-//! What an instruction says of control flow (SPIR-V 1.6, section 3.49.17). Blocks are named by the ids of their labels.
+//! What an instruction says of control flow (SPIR-V 1.6, "Control-Flow Instructions"). Blocks are named by the ids of their labels.
 
 ghost use Rattle.std.specs.Prelude.{◌≡◌, ◌<◌, ◌^◌, ◌++◌, ◌∷◌, [], length, drop, map, IfOk, OnOk, IfSome};
 ghost use Rattle.std.specs.Option.{option_map};

@@ -5,7 +5,7 @@ use dx_base::{List, Numbers, OutOfMemory};
 use std::alloc::Global;
 use std::marker::Model;
 
-/// Which merge instruction it is (SPIR-V 1.6, section 3.49.17: OpSelectionMerge, OpLoopMerge). Blocks are named by their numbers.
+/// Which merge instruction it is (SPIR-V 1.6, "Control-Flow Instructions": OpSelectionMerge, OpLoopMerge). Blocks are named by their numbers.
 #[derive(Clone, Copy, Debug, PartialEq, Eq)]
 pub enum MergeKind {
     Selection,

@@ -61,7 +61,7 @@ fn counts_of(alloc: Global, ids: &[u32]) -> Result<BTreeMap<u32, u32>, OutOfMemo
     Ok(counts)
 }
 
-/// The storage classes that decide whether an interface lists a variable (SPIR-V 1.6, section 3.7).
+/// The storage classes that decide whether an interface lists a variable (SPIR-V 1.6, "Storage Class").
 const INPUT: u32 = 1;
 
 const FUNCTION: u32 = 7;
