@@ -1,0 +1,4 @@
+pub mod Pool
+pub mod Calls
+pub mod Setters
+pub mod Values
