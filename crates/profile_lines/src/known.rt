@@ -541,8 +541,7 @@ fn add_stated(pool: &Pool, known: &mut KnownList, values: &[Global]) -> Result<(
     Ok(())
 }
 
-/// The values of a body by number: those of the module, the constants of the body, and those of its lines. `setters` tells which line gives each of them. The
-/// time is linear.
+/// The values of a body by number: those of the module, the constants of the body, and those of its lines. `setters` tells which line gives each of them.
 ///
 /// # Errors
 ///

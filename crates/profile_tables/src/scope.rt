@@ -60,8 +60,7 @@ fn makes_handle(op: Option<OpKind>) -> bool
 }
 
 impl<'a> Scope<'a> {
-    /// The body of a function with these constants and values of its module, with so many values, these lines, so many blocks and these rows of resources. The time is
-    /// linear, but for the ids of the rows, which are kept in order.
+    /// The body of a function with these constants and values of its module, with so many values, these lines, so many blocks and these rows of resources.
     ///
     /// # Errors
     ///
