@@ -1,0 +1,12 @@
+//! The slots of a program's registers: two for each phi, and one for each register that crosses.
+//!
+//! The end of a block reads the entries of the next block's phis into their `next` slots, and the head of that block copies each `next` to its `now`. So the
+//! phis of a block read at once, also where they name each other.
+#![tactic(auto)]
+
+mod crossing;
+mod reads;
+mod settled;
+mod slots;
+
+pub use slots::{CrossSlot, CrossSlotList, PhiSlot, PhiSlotList, Slots, demote};
