@@ -71,8 +71,6 @@ fn phi_slots(alloc: Global, blocks: &BlockList) -> Result<PhiSlotList, OutOfMemo
 }
 
 /// The slots of a program: two for each phi, and one for each other register that a phi's entry names, or that is read where its own block need not have set it.
-///
-/// It takes time n log n in the instructions and entries.
 pub fn demote(alloc: Global, p: &Program) -> Result<Slots, OutOfMemory>
     requires { Sound p.now }
     ensures { IfOk result (AreSlots p.now) }
