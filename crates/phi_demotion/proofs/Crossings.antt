@@ -118,24 +118,24 @@ line_is done [] reg ty i = absurd (none_in {X = Reg × Ty} (reg, ty) i)
 line_is done (instr ∷ instrs) reg ty i =
     elim (in_split {X = Reg × Ty} (reg, ty) (flat_map (unset (has_key done)) (reads instr)) (line_reads (done ++ set_by instr) instrs) i) [
       | inl l ↦ (
-        let w = in_flat (unset (has_key done)) (reads instr) (reg, ty) l in
-        let n = unset_names (has_key done) w.element reg ty w.member in
-        record {
-          at = 0;
-          instr = instr;
-          stands = refl;
-          reads = subst (λ (a : Operand). In a (reads instr)) n.is (in_get (reads instr) w.at w.element w.stands);
-          free = ap (λ (xs : List (Typed Reg)). has_key xs (key_of reg)) (append-nil done) ∙ n.free;
-        })
+          let w = in_flat (unset (has_key done)) (reads instr) (reg, ty) l in
+          let n = unset_names (has_key done) w.element reg ty w.member in
+          record {
+            at = 0;
+            instr = instr;
+            stands = refl;
+            reads = subst (λ (a : Operand). In a (reads instr)) n.is (in_get (reads instr) w.at w.element w.stands);
+            free = ap (λ (xs : List (Typed Reg)). has_key xs (key_of reg)) (append-nil done) ∙ n.free;
+          })
       | inr r ↦ (
-        let w = line_is (done ++ set_by instr) instrs reg ty r in
-        record {
-          at = suc w.at;
-          instr = w.instr;
-          stands = w.stands;
-          reads = w.reads;
-          free = ap (λ (xs : List (Typed Reg)). has_key xs (key_of reg)) (sym (append_assoc done (set_by instr) (settled (take w.at instrs)))) ∙ w.free;
-        })
+          let w = line_is (done ++ set_by instr) instrs reg ty r in
+          record {
+            at = suc w.at;
+            instr = w.instr;
+            stands = w.stands;
+            reads = w.reads;
+            free = ap (λ (xs : List (Typed Reg)). has_key xs (key_of reg)) (sym (append_assoc done (set_by instr) (settled (take w.at instrs)))) ∙ w.free;
+          })
     ]
 
 pub is_line : (done : List (Typed Reg)) (instrs : List Instr) (k : ℕ) (instr : Instr) (reg : Reg) (ty : Ty) → slice_get instrs k ≡ Some instr → In (operand.Reg reg ty) (reads instr) → has_key (done ++ settled (take k instrs)) (key_of reg) ≡ false → In {X = Reg × Ty} (reg, ty) (line_reads done instrs)
@@ -173,24 +173,24 @@ crosses_is p reg ty i =
     let block : Block = w.element in
     elim (in_split {X = Reg × Ty} (reg, ty) (phi_reads block.phis ++ line_reads [] block.instrs) (end_reads block) w.member) [
       | inr end ↦ (
-        let f = in_flat (unset (has_key (settled block.instrs))) (map (λ (a : Typed Operand). a.item) (term_operands block.term)) (reg, ty) end in
-        let n = unset_names (has_key (settled block.instrs)) f.element reg ty f.member in
-        let m = map_in (λ (a : Typed Operand). a.item) (term_operands block.term) f.element (in_get (map (λ (a : Typed Operand). a.item) (term_operands block.term)) f.at f.element f.stands) in
-        let same : m.element.item ≡ operand.Reg reg ty = m.same ∙ n.is in
-        let member : In m.element (term_operands block.term) = in_get (term_operands block.term) m.at m.element m.stands in
-        let named : In (typed (operand.Reg reg ty) m.element.ty) (term_operands block.term) = subst (λ (a : Operand). In (typed a m.element.ty) (term_operands block.term)) same member in
-        by_end w.at block m.element.ty ty w.stands (contains_in (term_operands block.term) (typed (operand.Reg reg ty) m.element.ty) named) (λ k t s.
+          let f = in_flat (unset (has_key (settled block.instrs))) (map (λ (a : Typed Operand). a.item) (term_operands block.term)) (reg, ty) end in
+          let n = unset_names (has_key (settled block.instrs)) f.element reg ty f.member in
+          let m = map_in (λ (a : Typed Operand). a.item) (term_operands block.term) f.element (in_get (map (λ (a : Typed Operand). a.item) (term_operands block.term)) f.at f.element f.stands) in
+          let same : m.element.item ≡ operand.Reg reg ty = m.same ∙ n.is in
+          let member : In m.element (term_operands block.term) = in_get (term_operands block.term) m.at m.element m.stands in
+          let named : In (typed (operand.Reg reg ty) m.element.ty) (term_operands block.term) = subst (λ (a : Operand). In (typed a m.element.ty) (term_operands block.term)) same member in
+          by_end w.at block m.element.ty ty w.stands (contains_in (term_operands block.term) (typed (operand.Reg reg ty) m.element.ty) named) (λ k t s.
           let yes = setter_key block.instrs reg (record { at = k; instr = s.0; ty = t; stands = s.1; sets = in_contains (set_by s.0) (typed reg t) s.2 }) in
           let no = n.free in
           cc))
       | inl first ↦ elim (in_split {X = Reg × Ty} (reg, ty) (phi_reads block.phis) (line_reads [] block.instrs) first) [
         | inl phis ↦ (
-          let f = in_flat (λ (phi : Phi). entry_reads phi.entries) block.phis (reg, ty) phis in
-          let g = in_flat (λ (e : Entry). named e.value) f.element.entries (reg, ty) f.member in
-          by_entry w.at f.at g.at block f.element g.element ty w.stands f.stands g.stands (named_is g.element.value reg ty g.member))
+            let f = in_flat (λ (phi : Phi). entry_reads phi.entries) block.phis (reg, ty) phis in
+            let g = in_flat (λ (e : Entry). named e.value) f.element.entries (reg, ty) f.member in
+            by_entry w.at f.at g.at block f.element g.element ty w.stands f.stands g.stands (named_is g.element.value reg ty g.member))
         | inr lines ↦ (
-          let r = line_is [] block.instrs reg ty lines in
-          by_line w.at r.at block r.instr ty w.stands r.stands (contains_in (reads r.instr) (operand.Reg reg ty) r.reads) (λ k t lt s.
+            let r = line_is [] block.instrs reg ty lines in
+            by_line w.at r.at block r.instr ty w.stands r.stands (contains_in (reads r.instr) (operand.Reg reg ty) r.reads) (λ k t lt s.
             let yes = setter_key (take r.at block.instrs) reg (record { at = k; instr = s.0; ty = t; stands = below_take block.instrs r.at k s.0 lt s.1; sets = in_contains (set_by s.0) (typed reg t) s.2 }) in
             let no = r.free in
             cc))
@@ -210,15 +210,15 @@ is_crosses p reg (by_entry b n k block phi entry ty stands stands' stands'' is) 
     record { ty = ty; member = flat_in block_reads p.blocks b block (reg, ty) stands (in_left (end_reads block) (in_left (line_reads [] block.instrs) three)) }
 is_crosses p reg (by_line b n block instr ty stands stands' contains none) =
     let free : has_key (settled (take n block.instrs)) (key_of reg) ≡ false = not_true (has_key (settled (take n block.instrs)) (key_of reg)) (λ e. (
-      let s = key_setter (take n block.instrs) reg e in
-      let below = take_below block.instrs n s.at s.instr s.stands in
-      none s.at s.ty below.0 (s.instr, below.1, contains_in (set_by s.instr) (typed reg s.ty) s.sets))) in
+    let s = key_setter (take n block.instrs) reg e in
+    let below = take_below block.instrs n s.at s.instr s.stands in
+    none s.at s.ty below.0 (s.instr, below.1, contains_in (set_by s.instr) (typed reg s.ty) s.sets))) in
     let one = is_line [] block.instrs n instr reg ty stands' (in_contains (reads instr) (operand.Reg reg ty) contains) free in
     record { ty = ty; member = flat_in block_reads p.blocks b block (reg, ty) stands (in_left (end_reads block) (in_right (phi_reads block.phis) one)) }
 is_crosses p reg (by_end b block t ty stands contains none) =
     let free : has_key (settled block.instrs) (key_of reg) ≡ false = not_true (has_key (settled block.instrs) (key_of reg)) (λ e. (
-      let s = key_setter block.instrs reg e in
-      none s.at s.ty (s.instr, s.stands, contains_in (set_by s.instr) (typed reg s.ty) s.sets))) in
+    let s = key_setter block.instrs reg e in
+    none s.at s.ty (s.instr, s.stands, contains_in (set_by s.instr) (typed reg s.ty) s.sets))) in
     let p' = get_in (in_contains (term_operands block.term) (typed (operand.Reg reg ty) t) contains) in
     let q = get_in (in_map (λ (a : Typed Operand). a.item) (term_operands block.term) p'.at (typed (operand.Reg reg ty) t) p'.is) in
     let one = flat_in (unset (has_key (settled block.instrs))) (map (λ (a : Typed Operand). a.item) (term_operands block.term)) q.at (operand.Reg reg ty) (reg, ty) q.is (names_unset (has_key (settled block.instrs)) reg ty free) in
@@ -266,8 +266,8 @@ in_operands (Store mask target addr x y z w) a i =
     (elim (in_split a (in_address addr) (map (λ c. pick c x y z w) (parts_of mask)) i) [
       | inl l ↦ in_left (x ∷ y ∷ z ∷ w ∷ []) l
       | inr r ↦ (
-        let m = map_in (λ c. pick c x y z w) (parts_of mask) a r in
-        in_right (in_address addr) (subst (λ (v : Operand). In v (x ∷ y ∷ z ∷ w ∷ [])) m.same (in_picked m.element x y z w)))
+          let m = map_in (λ c. pick c x y z w) (parts_of mask) a r in
+          in_right (in_address addr) (subst (λ (v : Operand). In v (x ∷ y ∷ z ∷ w ∷ [])) m.same (in_picked m.element x y z w)))
     ])
 in_operands (Atomic to op target addr value) x i = i
 in_operands (Swap to target addr compare value) x i = i
@@ -283,19 +283,19 @@ typed_read p sound reg ty i =
     let block : Block = w.element in
     elim (in_split {X = Reg × Ty} (reg, ty) (phi_reads block.phis ++ line_reads [] block.instrs) (end_reads block) w.member) [
       | inr end ↦ (
-        let f = in_flat (unset (has_key (settled block.instrs))) (map (λ (a : Typed Operand). a.item) (term_operands block.term)) (reg, ty) end in
-        let n = unset_names (has_key (settled block.instrs)) f.element reg ty f.member in
-        let m = map_in (λ (a : Typed Operand). a.item) (term_operands block.term) f.element (in_get (map (λ (a : Typed Operand). a.item) (term_operands block.term)) f.at f.element f.stands) in
-        typed_operand p reg ty m.element.ty m.element.item (m.same ∙ n.is) (sound.end_types w.at m.at block.term m.element (record { block = block; stands = w.stands; ends = refl }) m.stands))
+          let f = in_flat (unset (has_key (settled block.instrs))) (map (λ (a : Typed Operand). a.item) (term_operands block.term)) (reg, ty) end in
+          let n = unset_names (has_key (settled block.instrs)) f.element reg ty f.member in
+          let m = map_in (λ (a : Typed Operand). a.item) (term_operands block.term) f.element (in_get (map (λ (a : Typed Operand). a.item) (term_operands block.term)) f.at f.element f.stands) in
+          typed_operand p reg ty m.element.ty m.element.item (m.same ∙ n.is) (sound.end_types w.at m.at block.term m.element (record { block = block; stands = w.stands; ends = refl }) m.stands))
       | inl first ↦ elim (in_split {X = Reg × Ty} (reg, ty) (phi_reads block.phis) (line_reads [] block.instrs) first) [
         | inl phis ↦ (
-          let f = in_flat (λ (phi : Phi). entry_reads phi.entries) block.phis (reg, ty) phis in
-          let g = in_flat (λ (e : Entry). named e.value) f.element.entries (reg, ty) f.member in
-          typed_operand p reg ty f.element.ty g.element.value (named_is g.element.value reg ty g.member) (sound.entry_types w.at f.at g.at f.element g.element (record { block = block; stands = w.stands; line = f.stands }) g.stands))
+            let f = in_flat (λ (phi : Phi). entry_reads phi.entries) block.phis (reg, ty) phis in
+            let g = in_flat (λ (e : Entry). named e.value) f.element.entries (reg, ty) f.member in
+            typed_operand p reg ty f.element.ty g.element.value (named_is g.element.value reg ty g.member) (sound.entry_types w.at f.at g.at f.element g.element (record { block = block; stands = w.stands; line = f.stands }) g.stands))
         | inr lines ↦ (
-          let r = line_is [] block.instrs reg ty lines in
-          let q = in_operands r.instr (operand.Reg reg ty) r.reads in
-          let m = map_in (λ (a : Typed Operand). a.item) (operands_of r.instr) (operand.Reg reg ty) q in
-          typed_operand p reg ty m.element.ty m.element.item m.same (sound.line_types w.at r.at m.at r.instr m.element (record { block = block; stands = w.stands; line = r.stands }) m.stands))
+            let r = line_is [] block.instrs reg ty lines in
+            let q = in_operands r.instr (operand.Reg reg ty) r.reads in
+            let m = map_in (λ (a : Typed Operand). a.item) (operands_of r.instr) (operand.Reg reg ty) q in
+            typed_operand p reg ty m.element.ty m.element.item m.same (sound.line_types w.at r.at m.at r.instr m.element (record { block = block; stands = w.stands; line = r.stands }) m.stands))
       ]
     ]

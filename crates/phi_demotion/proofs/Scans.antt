@@ -71,11 +71,14 @@ reads_more phis first list k d slots next taken more within few made has step ad
   where
     read : Reg × Ty
     read = get_or list k d
+
     key : ℕ × ℕ
     key = key_of (get_or list k d).0
+
     fewer : (b : Bool) → next ≡ (if b then slots else with_slot slots first (get_or list k d)) → length next ≤ k + 1
     fewer true e = let same : length next ≡ length slots = ap length e in omega arith
     fewer false e = let same = ap length e in omega (arith, length-append {A = CrossSlot})
+
     taken_more : (q : ℕ × ℕ) (b : Bool) → taken (key_of (get_or list k d).0) ≡ b → next ≡ (if b then slots else with_slot slots first (get_or list k d)) → (taken q || is_key (key_of (get_or list k d).0) q) ≡ (is_phi phis q || in_slots next q)
     taken_more q true is e =
         sym (or_right (taken q) (is_key (key_of (get_or list k d).0) q) (λ same. ap taken (sym (same_key (key_of (get_or list k d).0) q same)) ∙ is)) ∙ has q ∙ ap (λ s. is_phi phis q || in_slots s q) (sym e)
