@@ -428,7 +428,7 @@ fn the_first_broken_rule_is_told(rt: HostRuntime) -> Result<(), Fail> {
 }
 
 /// Pieces, and the values that they state.
-const BY_NUMBER: [(&'static str, &'static [Piece], &'static [&'static str]); 4] = [
+const BY_NUMBER: [(&'static str, &'static [Piece], &'static [&'static str]); 5] = [
     (
         "variables",
         &[
