@@ -1,0 +1,10 @@
+pub mod Keys
+pub mod Plans
+pub mod Reads
+pub mod Accesses
+pub mod Lines
+pub mod Leaves
+pub mod Trees
+pub mod Rows
+pub mod Frame
+pub mod Worked
