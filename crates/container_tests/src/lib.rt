@@ -1,12 +1,6 @@
-//! Tests of what lies between a file and the items of its bitcode: bits, files, containers, bitstreams and their lines.
+//! Tests of containers, whole files and the lines that show them.
 #![tactic(auto)]
 
-#[cfg(test)]
-mod bits;
-#[cfg(test)]
-mod bitstreams;
-#[cfg(test)]
-mod blocks;
 #[cfg(test)]
 mod containers;
 #[cfg(test)]
@@ -17,5 +11,3 @@ mod lines;
 mod outside;
 #[cfg(test)]
 mod small;
-#[cfg(test)]
-mod values;

@@ -2,17 +2,9 @@
 #![tactic(auto)]
 
 #[cfg(test)]
-mod blocks;
-#[cfg(test)]
-mod bodies;
-#[cfg(test)]
 mod operands;
 #[cfg(test)]
-mod places;
-#[cfg(test)]
 mod rules;
-#[cfg(test)]
-mod scans;
 #[cfg(test)]
 mod shader;
 #[cfg(test)]

@@ -1,7 +1,7 @@
 use Rattle.std.proofs.Common.{arith}
 use Rattle.flow_scans.specs.declared.span.Span.{Span}
 use Rattle.flow_scans.proofs.Tables.{below_more}
-use Rattle.module_tests.proofs.scans.expect_below.Goals as goal
+use Rattle.flow_tests.proofs.scans.expect_below.Goals as goal
 
 pub loop-at-preserved : goal.loop-at-preserved
 loop-at-preserved g c =

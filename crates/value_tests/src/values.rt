@@ -3,8 +3,8 @@
 ghost use Rattle.std.specs.Prelude.{IfOk};
 ghost use Rattle.bitstream_spelling.specs.Framed.{IsFramed};
 
-use crate::writer::Piece::{self, End, Enter, Record};
-use crate::writer::items_of;
+use bitstream_pieces::Piece::{self, End, Enter, Record};
+use bitstream_pieces::items_of;
 use bitstream_spelling::Items;
 use dx_base::{Fault, Rule};
 use llvm_types::read_types;
@@ -33,7 +33,7 @@ fn module(alloc: Global, head: &[Piece], pieces: &[Piece]) -> Result<Items, Fail
     whole.extend_from_slice(&TYPES)?;
     whole.extend_from_slice(pieces)?;
     whole.push(End)?;
-    items_of(alloc, &whole)
+    Ok(items_of(alloc, &whole).ok().ok_or("no items")?)
 }
 
 fn check(alloc: Global, head: &[Piece], pieces: &[Piece]) -> Result<Result<(), Fault>, Fail> {

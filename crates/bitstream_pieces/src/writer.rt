@@ -4,13 +4,13 @@ ghost use Rattle.std.specs.Prelude.{◌≤◌, IfOk};
 ghost use Rattle.bitstream_spelling.specs.Framed.{IsFramed};
 
 use bitstream_spelling::Items;
+use dx_base::Fault;
 use dx_bitstream::read_items;
 use std::alloc::{AllocError, Global};
-use std::test::Fail;
 
 /// A piece of a bitstream; every block but the top has abbreviation ids of three bits.
 #[derive(Clone, Copy)]
-pub(crate) enum Piece {
+pub enum Piece {
     Enter(u64),
     Record(u64, &'static [u64]),
     /// A record whose last fields come so many times.
@@ -160,23 +160,20 @@ fn bitstream(alloc: Global, pieces: &[Piece]) -> Result<Vec<u8>, AllocError> {
     Ok(writer.bytes)
 }
 
-/// The items of a bitstream.
-pub(crate) fn items_of(alloc: Global, pieces: &[Piece]) -> Result<Items, Fail>
+/// The items of the bitstream of these pieces.
+pub fn items_of(alloc: Global, pieces: &[Piece]) -> Result<Items, Fault>
     ensures { IfOk result (λ items. IsFramed items.list items.fields) }
 {
-    let bytes = bitstream(alloc, pieces)?;
-    items_in(alloc, bytes.as_slice())
+    match bitstream(alloc, pieces) {
+        Ok(bytes) => items_in(alloc, bytes.as_slice()),
+        Err(_) => Err(Fault::OutOfMemory),
+    }
 }
 
-/// The items that these bytes spell.
-pub(crate) fn items_in(alloc: Global, bytes: &[u8]) -> Result<Items, Fail>
+/// The items that the first 10,000,000 of these bytes spell.
+pub fn items_in(alloc: Global, bytes: &[u8]) -> Result<Items, Fault>
     ensures { IfOk result (λ items. IsFramed items.list items.fields) }
 {
-    if bytes.len() > 10000000 {
-        return Err("long")?;
-    }
-    let Ok(items) = read_items(alloc, bytes, 0, bytes.len() as u64) else {
-        return Err("no items")?;
-    };
-    Ok(items)
+    let end = bytes.len().min(10_000_000);
+    read_items(alloc, bytes, 0, end as u64)
 }

@@ -3,8 +3,8 @@
 ghost use Rattle.std.specs.Prelude.{IfOk};
 ghost use Rattle.llvm_bodies.specs.Reading.{AreFew};
 
-use crate::writer::Piece::{self, End, Enter, Long, Many, Record};
-use crate::writer::items_of;
+use bitstream_pieces::Piece::{self, End, Enter, Long, Many, Record};
+use bitstream_pieces::items_of;
 use bitstream_spelling::Items;
 use dx_base::{Fault, List, Rule, Which};
 use llvm_bodies::{Body, BodyList, Line, ModuleFacts, Signature, read_bodies};
@@ -99,7 +99,9 @@ fn place_of(items: &Items, bit: u64) -> usize {
 }
 
 fn read(alloc: Global, two: bool, pieces: &[Piece]) -> Result<Outcome, Fail> {
-    let items = items_of(alloc, pieces)?;
+    let Ok(items) = items_of(alloc, pieces) else {
+        return Err("no items")?;
+    };
     let facts = facts_of(alloc, two)?;
     match read_bodies(alloc, &items, &facts) {
         Ok(bodies) => Ok(Lines(lines_in(&bodies))),
@@ -544,7 +546,9 @@ const TWO: [Piece; 21] = [
 
 #[test]
 fn two_bodies_with_forward_references(rt: HostRuntime) -> Result<(), Fail> {
-    let items = items_of(rt.alloc(), &TWO)?;
+    let Ok(items) = items_of(rt.alloc(), &TWO) else {
+        return Err("no items")?;
+    };
     let facts = facts_of(rt.alloc(), true)?;
     let bodies = read_bodies(rt.alloc(), &items, &facts)
         .ok()

@@ -1,7 +1,7 @@
 //! Metadata of small bitstreams, and ones that break a rule.
 
-use crate::writer::Piece::{self, Define, End, Enter, Record};
-use crate::writer::items_of;
+use bitstream_pieces::Piece::{self, Define, End, Enter, Record};
+use bitstream_pieces::items_of;
 use dx_base::{Fault, Rule};
 use llvm_nodes::{Meta, MetaItem, read_nodes};
 use std::alloc::Global;
@@ -9,7 +9,9 @@ use std::test::Fail;
 
 /// The metadata of the pieces, in a module of three types and two values, or the fault.
 fn read(alloc: Global, pieces: &[Piece]) -> Result<Result<Meta, Fault>, Fail> {
-    let items = items_of(alloc, pieces)?;
+    let Ok(items) = items_of(alloc, pieces) else {
+        return Err("no items")?;
+    };
     Ok(read_nodes(alloc, &items, 3, 2))
 }
 

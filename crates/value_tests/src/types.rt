@@ -1,7 +1,7 @@
 //! Types of small bitstreams, and ones that break a rule.
 
-use crate::writer::Piece::{self, End, Enter, Record};
-use crate::writer::items_of;
+use bitstream_pieces::Piece::{self, End, Enter, Record};
+use bitstream_pieces::items_of;
 use dx_base::{Fault, Rule};
 use llvm_types::{LlvmType, Types, read_types};
 use std::alloc::Global;
@@ -9,7 +9,9 @@ use std::test::Fail;
 
 /// The types of the pieces, or the fault.
 fn read(alloc: Global, pieces: &[Piece]) -> Result<Result<Types, Fault>, Fail> {
-    let items = items_of(alloc, pieces)?;
+    let Ok(items) = items_of(alloc, pieces) else {
+        return Err("no items")?;
+    };
     Ok(read_types(alloc, &items))
 }
 

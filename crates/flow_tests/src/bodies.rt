@@ -1,5 +1,6 @@
-use crate::structure::answer;
-use spv_form::WordRule;
+use dx_base::{List, bytes_of};
+use spirv_file::check_file;
+use spv_form::{CheckFault, WordRule};
 use std::alloc::{AllocError, Global};
 use std::process::Abort;
 use std::test::Fail;
@@ -93,6 +94,25 @@ fn push_step(words: &mut Vec<u32>, step: Step) -> Result<(), AllocError> {
             words.extend_from_slice(&[0x0007_00FB, 7, label(default), 1, label(one), 2, label(two)])
         }
         Return => words.push(0x0001_00FD).map_err(|_| AllocError),
+    }
+}
+
+/// The rule that the file of these words breaks, and its word; None where it breaks none.
+fn answer(
+    rt: &impl Abort,
+    alloc: Global,
+    words: &[u32],
+) -> Result<Option<(WordRule, u32)>, Fail> {
+    let mut list = List::new(alloc);
+    for word in words {
+        list.push(*word)?;
+    }
+    let bytes = bytes_of(alloc, &list)?;
+    assert!(rt; bytes.len() <= 1 << 26);
+    match check_file(alloc, bytes) {
+        Ok(()) => Ok(None),
+        Err(CheckFault::Refused { rule, word }) => Ok(Some((rule, word))),
+        Err(fault) => Err(fault.into()),
     }
 }
 

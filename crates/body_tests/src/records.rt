@@ -3,7 +3,7 @@
 ghost use Rattle.std.specs.Prelude.{IfOk};
 ghost use Rattle.bitstream_spelling.specs.Framed.{IsFramed};
 
-use crate::writer::items_in;
+use bitstream_pieces::items_in;
 use bitstream_spelling::Items;
 use dx_base::{Fault, Rule, Which};
 use llvm_records::read_module_records;
@@ -132,7 +132,7 @@ fn items_of(alloc: Global, words: &[u32]) -> Result<Items, Fail>
     for word in words {
         bytes.extend_from_slice(&word.to_le_bytes())?;
     }
-    items_in(alloc, bytes.as_slice())
+    Ok(items_in(alloc, bytes.as_slice()).ok().ok_or("no items")?)
 }
 
 /// How many values, bodies and lines of the first body there are, or the fault.
