@@ -5,6 +5,9 @@ use Rattle.flow_scans.specs.Spans.{Has}
 use Rattle.flow_rules.specs.Blocks.{BasicBlock}
 use Rattle.flow_rules.specs.declared.block.Merge.{Merge}
 use Rattle.flow_rules.specs.declared.block.Terminator.TheVariants.{Return}
+use Rattle.flow_rules.specs.declared.tables.EdgeTables.{EdgeTables}
+use Rattle.flow_rules.specs.declared.tables.RowTables.{RowTables}
+use Rattle.flow_rules.specs.declared.tables.ConstructTables.{ConstructTables}
 use Rattle.flow_rules.specs.declared.tables.Tables.{Tables}
 use Rattle.flow_rules.specs.declared.lists.Family.{Family}
 use Rattle.flow_rules.specs.declared.lists.Family.TheVariants.{Edges, Headers, Backs, Returns, Nested, Rows, Lefts, Bodies, CaseFroms}
@@ -259,6 +262,26 @@ module _ (bs : List BasicBlock) where
   pub record AreLows (values : List ℕ) : Type 0 where
     pub counted : length values ≡ length bs
     pub each : (q : ℕ) (b : BasicBlock) → At bs q b → IsLow b (slice_index values q)
+
+  pub record AreEdgeTables (t : EdgeTables) : Type 0 where
+    pub sources : LeastTable (SpanOf EdgeOf) (length bs) t.sources
+    pub first_backs : LeastTable (SpanOf BackOf) (length bs) t.first_backs
+    pub last_backs : GreatestTable (SpanOf BackTo) (length bs) t.last_backs
+    pub lows : AreLows t.lows
+    pub highs : AreHighs t.highs
+
+  pub record AreRowTables (t : RowTables) : Type 0 where
+    pub mergers : LeastTable (SpanOf HeaderOf) (length bs) t.mergers
+    pub nested_ends : EndTable (SpanOf NestedOf) 1 (length bs) t.nested_ends
+    pub row_ends : EndTable (SpanOf RowOf) 1 (length bs) t.row_ends
+    pub row_overs : OverTable (SpanOf RowOf) 1 (length bs) t.row_overs
+    pub case_froms : LeastTable (SpanOf CaseFrom) (length bs) t.case_froms
+
+  pub record AreConstructTables (t : ConstructTables) : Type 0 where
+    pub left_ends : EndTable (SpanOf LeftOf) 0 (length bs) t.left_ends
+    pub body_ends : EndTable (SpanOf BodyOf) 0 (length bs) t.body_ends
+    pub loops : OverTable (SpanOf LoopOf) 0 (length bs) t.loops
+    pub switches : OverTable (SpanOf SwitchOf) 0 (length bs) t.switches
 
   pub record AreTables (t : Tables) : Type 0 where
     pub sources : LeastTable (SpanOf EdgeOf) (length bs) t.sources

@@ -16,7 +16,7 @@ use spv_form::{CheckFault, WordRule};
 use std::alloc::Global;
 
 /// A broken rule and its word.
-#[derive(Clone, Copy, Debug)]
+#[derive(Clone, Copy)]
 pub struct Fault {
     rule: u8,
     word: u32,

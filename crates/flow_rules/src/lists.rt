@@ -12,7 +12,7 @@ use flow_scans::Span;
 use std::alloc::Global;
 
 /// Which spans are listed: edges, or rows of blocks.
-#[derive(Clone, Copy, Debug)]
+#[derive(Clone, Copy)]
 pub enum Family {
     /// Structural edges.
     Edges,
@@ -190,7 +190,7 @@ fn between(alloc: Global, targets: &[u32], low: u32, high: u32) -> Result<Vec<u3
 }
 
 /// The first blocks of the case constructs of a switch, in order, and the end of the last one.
-#[derive(Debug, Drop)]
+#[derive(Drop)]
 pub(crate) struct CaseStarts {
     starts: Vec<u32>,
     last: u32,

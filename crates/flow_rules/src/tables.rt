@@ -3,7 +3,7 @@
 ghost use Rattle.std.specs.Prelude.{◌≡◌, ◌+◌, ◌-◌, ◌<◌, ◌≤◌, ◌^◌, ℕ, length, slice_index, IfOk};
 ghost use Rattle.flow_rules.specs.Flow.{At};
 ghost use Rattle.flow_rules.specs.Rules.{IsNumbered};
-ghost use Rattle.flow_rules.specs.Lists.{OfFamily, SpanOf, LeastTable, GreatestTable, EndTable, OverTable, AreHighs, AreLows, IsHigh, IsLow, IsLowTo, HighTo, AreTables};
+ghost use Rattle.flow_rules.specs.Lists.{OfFamily, SpanOf, LeastTable, GreatestTable, EndTable, OverTable, AreHighs, AreLows, IsHigh, IsLow, IsLowTo, HighTo, AreEdgeTables, AreRowTables, AreConstructTables, AreTables};
 
 use crate::block::{BasicBlock, Terminator};
 use crate::lists::{Family, spans_of};
@@ -14,7 +14,7 @@ use flow_scans::{
 use std::alloc::Global;
 
 /// Numbers for each block.
-#[derive(Debug, Drop)]
+#[derive(Drop)]
 pub struct Tables {
     /// The first block with a structural edge to it.
     pub(crate) sources: Runs,
@@ -46,32 +46,63 @@ pub struct Tables {
     pub(crate) highs: RangeMax,
 }
 
-fn least_table(
-    alloc: Global,
-    family: Family,
-    blocks: &[BasicBlock],
-) -> Result<Vec<u32>, OutOfMemory>
+/// The tables of edges.
+#[derive(Drop)]
+struct EdgeTables {
+    pub(crate) sources: Runs,
+    pub(crate) first_backs: Runs,
+    pub(crate) last_backs: Runs,
+    pub(crate) lows: RangeMax,
+    pub(crate) highs: RangeMax,
+}
+
+/// The tables of headers and of their rows.
+#[derive(Drop)]
+struct RowTables {
+    pub(crate) mergers: Runs,
+    pub(crate) nested_ends: Runs,
+    pub(crate) row_ends: Runs,
+    pub(crate) row_overs: Runs,
+    pub(crate) case_froms: Runs,
+}
+
+/// The tables of the constructs and loops that hold a block.
+#[derive(Drop)]
+struct ConstructTables {
+    pub(crate) left_ends: Runs,
+    pub(crate) body_ends: Runs,
+    pub(crate) loops: Runs,
+    pub(crate) switches: Runs,
+}
+
+/// The table as runs, since most of its numbers are those of the block before.
+fn kept(alloc: Global, table: Vec<u32>) -> Result<Runs, OutOfMemory>
+    requires { length table.items < 2 ^ 32 }
+    ensures { IfOk result (λ runs. runs ≡ table.items) }
+{
+    Runs::of(alloc, table.as_slice())
+}
+
+fn least_table(alloc: Global, family: Family, blocks: &[BasicBlock]) -> Result<Runs, OutOfMemory>
     requires small { length blocks.now < 2 ^ 32 }
     requires numbered { IsNumbered blocks.now }
-    ensures { IfOk result (λ v. LeastTable (SpanOf (OfFamily blocks.now family)) (length blocks.now) v.items) }
+    ensures { IfOk result (λ v. LeastTable (SpanOf (OfFamily blocks.now family)) (length blocks.now) v) }
 {
     let spans = spans_of(alloc, family, blocks)?;
     let table = least_firsts(alloc, &spans, blocks.len())?;
-    Ok(table)
+    let runs = kept(alloc, table)?;
+    Ok(runs)
 }
 
-fn greatest_table(
-    alloc: Global,
-    family: Family,
-    blocks: &[BasicBlock],
-) -> Result<Vec<u32>, OutOfMemory>
+fn greatest_table(alloc: Global, family: Family, blocks: &[BasicBlock]) -> Result<Runs, OutOfMemory>
     requires small { length blocks.now < 2 ^ 32 }
     requires numbered { IsNumbered blocks.now }
-    ensures { IfOk result (λ v. GreatestTable (SpanOf (OfFamily blocks.now family)) (length blocks.now) v.items) }
+    ensures { IfOk result (λ v. GreatestTable (SpanOf (OfFamily blocks.now family)) (length blocks.now) v) }
 {
     let spans = spans_of(alloc, family, blocks)?;
     let table = greatest_ends(alloc, &spans, blocks.len())?;
-    Ok(table)
+    let runs = kept(alloc, table)?;
+    Ok(runs)
 }
 
 fn end_table(
@@ -79,38 +110,37 @@ fn end_table(
     family: Family,
     blocks: &[BasicBlock],
     gap: u32,
-) -> Result<Vec<u32>, OutOfMemory>
+) -> Result<Runs, OutOfMemory>
     requires small { length blocks.now < 2 ^ 32 }
     requires numbered { IsNumbered blocks.now }
-    ensures { IfOk result (λ v. EndTable (SpanOf (OfFamily blocks.now family)) gap (length blocks.now) v.items) }
+    ensures { IfOk result (λ v. EndTable (SpanOf (OfFamily blocks.now family)) gap (length blocks.now) v) }
 {
     let spans = spans_of(alloc, family, blocks)?;
     let table = first_ends(alloc, &spans, blocks.len(), gap)?;
-    Ok(table)
+    let runs = kept(alloc, table)?;
+    Ok(runs)
 }
 
-fn over_table(alloc: Global, family: Family, blocks: &[BasicBlock]) -> Result<Vec<u32>, OutOfMemory>
+fn over_table(alloc: Global, family: Family, blocks: &[BasicBlock]) -> Result<Runs, OutOfMemory>
     requires small { length blocks.now < 2 ^ 32 }
     requires numbered { IsNumbered blocks.now }
-    ensures { IfOk result (λ v. OverTable (SpanOf (OfFamily blocks.now family)) 1 (length blocks.now) v.items) }
+    ensures { IfOk result (λ v. OverTable (SpanOf (OfFamily blocks.now family)) 1 (length blocks.now) v) }
 {
     let spans = spans_of(alloc, family, blocks)?;
     let table = last_overs(alloc, &spans, blocks.len())?;
-    Ok(table)
+    let runs = kept(alloc, table)?;
+    Ok(runs)
 }
 
-fn holder_table(
-    alloc: Global,
-    family: Family,
-    blocks: &[BasicBlock],
-) -> Result<Vec<u32>, OutOfMemory>
+fn holder_table(alloc: Global, family: Family, blocks: &[BasicBlock]) -> Result<Runs, OutOfMemory>
     requires small { length blocks.now < 2 ^ 32 }
     requires numbered { IsNumbered blocks.now }
-    ensures { IfOk result (λ v. OverTable (SpanOf (OfFamily blocks.now family)) 0 (length blocks.now) v.items) }
+    ensures { IfOk result (λ v. OverTable (SpanOf (OfFamily blocks.now family)) 0 (length blocks.now) v) }
 {
     let spans = spans_of(alloc, family, blocks)?;
     let table = last_holders(alloc, &spans, blocks.len())?;
-    Ok(table)
+    let runs = kept(alloc, table)?;
+    Ok(runs)
 }
 
 /// The greatest of some targets, or 0 where there is none.
@@ -188,12 +218,59 @@ fn lows(alloc: Global, blocks: &[BasicBlock]) -> Result<RangeMax, OutOfMemory>
     Ok(table)
 }
 
-/// The table as runs, since most of its numbers are those of the block before.
-fn kept(alloc: Global, table: Vec<u32>) -> Result<Runs, OutOfMemory>
-    requires { length table.items < 2 ^ 32 }
-    ensures { IfOk result (λ runs. runs ≡ table.items) }
+fn edge_tables(alloc: Global, blocks: &[BasicBlock]) -> Result<EdgeTables, OutOfMemory>
+    requires small { length blocks.now < 2 ^ 32 }
+    requires numbered { IsNumbered blocks.now }
+    ensures { IfOk result (λ t. AreEdgeTables blocks.now t) }
 {
-    Runs::of(alloc, table.as_slice())
+    let sources = least_table(alloc, Family::Edges, blocks)?;
+    let first_backs = least_table(alloc, Family::Backs, blocks)?;
+    let last_backs = greatest_table(alloc, Family::Returns, blocks)?;
+    let lows = lows(alloc, blocks)?;
+    let highs = highs(alloc, blocks)?;
+    Ok(EdgeTables {
+        sources,
+        first_backs,
+        last_backs,
+        lows,
+        highs,
+    })
+}
+
+fn row_tables(alloc: Global, blocks: &[BasicBlock]) -> Result<RowTables, OutOfMemory>
+    requires small { length blocks.now < 2 ^ 32 }
+    requires numbered { IsNumbered blocks.now }
+    ensures { IfOk result (λ t. AreRowTables blocks.now t) }
+{
+    let mergers = least_table(alloc, Family::Headers, blocks)?;
+    let nested_ends = end_table(alloc, Family::Nested, blocks, 1)?;
+    let row_ends = end_table(alloc, Family::Rows, blocks, 1)?;
+    let row_overs = over_table(alloc, Family::Rows, blocks)?;
+    let case_froms = least_table(alloc, Family::CaseFroms, blocks)?;
+    Ok(RowTables {
+        mergers,
+        nested_ends,
+        row_ends,
+        row_overs,
+        case_froms,
+    })
+}
+
+fn construct_tables(alloc: Global, blocks: &[BasicBlock]) -> Result<ConstructTables, OutOfMemory>
+    requires small { length blocks.now < 2 ^ 32 }
+    requires numbered { IsNumbered blocks.now }
+    ensures { IfOk result (λ t. AreConstructTables blocks.now t) }
+{
+    let left_ends = end_table(alloc, Family::Lefts, blocks, 0)?;
+    let body_ends = end_table(alloc, Family::Bodies, blocks, 0)?;
+    let loops = holder_table(alloc, Family::Loops, blocks)?;
+    let switches = holder_table(alloc, Family::Switches, blocks)?;
+    Ok(ConstructTables {
+        left_ends,
+        body_ends,
+        loops,
+        switches,
+    })
 }
 
 impl Tables {
@@ -203,35 +280,24 @@ impl Tables {
         requires numbered { IsNumbered blocks.now }
         ensures { IfOk result (λ t. AreTables blocks.now t) }
     {
-        let sources = kept(alloc, least_table(alloc, Family::Edges, blocks)?)?;
-        let mergers = kept(alloc, least_table(alloc, Family::Headers, blocks)?)?;
-        let first_backs = kept(alloc, least_table(alloc, Family::Backs, blocks)?)?;
-        let last_backs = kept(alloc, greatest_table(alloc, Family::Returns, blocks)?)?;
-        let nested_ends = kept(alloc, end_table(alloc, Family::Nested, blocks, 1)?)?;
-        let row_ends = kept(alloc, end_table(alloc, Family::Rows, blocks, 1)?)?;
-        let row_overs = kept(alloc, over_table(alloc, Family::Rows, blocks)?)?;
-        let left_ends = kept(alloc, end_table(alloc, Family::Lefts, blocks, 0)?)?;
-        let body_ends = kept(alloc, end_table(alloc, Family::Bodies, blocks, 0)?)?;
-        let loops = kept(alloc, holder_table(alloc, Family::Loops, blocks)?)?;
-        let switches = kept(alloc, holder_table(alloc, Family::Switches, blocks)?)?;
-        let case_froms = kept(alloc, least_table(alloc, Family::CaseFroms, blocks)?)?;
-        let lows = lows(alloc, blocks)?;
-        let highs = highs(alloc, blocks)?;
+        let edges = edge_tables(alloc, blocks)?;
+        let rows = row_tables(alloc, blocks)?;
+        let constructs = construct_tables(alloc, blocks)?;
         Ok(Tables {
-            sources,
-            mergers,
-            first_backs,
-            last_backs,
-            nested_ends,
-            row_ends,
-            row_overs,
-            left_ends,
-            body_ends,
-            loops,
-            switches,
-            case_froms,
-            lows,
-            highs,
+            sources: edges.sources,
+            mergers: rows.mergers,
+            first_backs: edges.first_backs,
+            last_backs: edges.last_backs,
+            nested_ends: rows.nested_ends,
+            row_ends: rows.row_ends,
+            row_overs: rows.row_overs,
+            left_ends: constructs.left_ends,
+            body_ends: constructs.body_ends,
+            loops: constructs.loops,
+            switches: constructs.switches,
+            case_froms: rows.case_froms,
+            lows: edges.lows,
+            highs: edges.highs,
         })
     }
 }

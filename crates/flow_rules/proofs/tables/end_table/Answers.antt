@@ -11,4 +11,5 @@ first_ends-requires-clause-below c =
 
 pub returns : goal.returns
 returns c =
-    end_table_of (SpanOf (OfFamily c.args.blocks.now c.args.family)) c.in_ok-spans.spans.items c.in_ok-spans.ensures c.args.gap (length c.args.blocks.now) c.deref.result.now c.in_ok-table.table.items c.deref.ensures.value c.in_ok-table.ensures.len c.in_ok-table.ensures.each
+    rw c.in_ok-runs.ensures
+    (end_table_of (SpanOf (OfFamily c.args.blocks.now c.args.family)) c.in_ok-spans.spans.items c.in_ok-spans.ensures c.args.gap (length c.args.blocks.now) c.deref.result.now c.in_ok-table.table.items c.deref.ensures.value c.in_ok-table.ensures.len c.in_ok-table.ensures.each)

@@ -11,4 +11,5 @@ last_holders-requires-clause-below c =
 
 pub returns : goal.returns
 returns c =
-    over_table_of (SpanOf (OfFamily c.args.blocks.now c.args.family)) c.in_ok-spans.spans.items c.in_ok-spans.ensures 0 (length c.args.blocks.now) c.deref.result.now c.in_ok-table.table.items c.deref.ensures.value c.in_ok-table.ensures.len c.in_ok-table.ensures.each
+    rw c.in_ok-runs.ensures
+    (over_table_of (SpanOf (OfFamily c.args.blocks.now c.args.family)) c.in_ok-spans.spans.items c.in_ok-spans.ensures 0 (length c.args.blocks.now) c.deref.result.now c.in_ok-table.table.items c.deref.ensures.value c.in_ok-table.ensures.len c.in_ok-table.ensures.each)
