@@ -1,7 +1,7 @@
 //! The slots of a program's registers: two for each phi, and one for each register that crosses.
 //!
-//! The end of a block reads the entries of the next block's phis into their `next` slots, and the head of that block copies each `next` to its `now`. So the
-//! phis of a block read at once, also where they name each other.
+//! A phi has two, so that the end of a block can read all entries of the next block's phis into their `next` slots, before the head of that block copies each
+//! `next` to its `now`: the phis of a block read at once, also where they name each other.
 #![tactic(auto)]
 
 mod crossing;

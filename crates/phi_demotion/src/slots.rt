@@ -27,7 +27,7 @@ pub struct CrossSlot {
     pub slot: u32,
 }
 
-/// Slots of registers that cross, in the order in which they are first read.
+/// Slots of registers that cross.
 pub type CrossSlotList = List<CrossSlot>;
 
 /// The slots of a program, by numbers below `count`.
