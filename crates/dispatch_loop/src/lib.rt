@@ -2,14 +2,17 @@
 #![tactic(auto)]
 
 ghost use Rattle.std.specs.Prelude.{◌≡◌, map, IfOk};
+ghost use Rattle.dxil_form.specs.declared.program.Program.{Program};
 ghost use Rattle.dxil_form.specs.Sound.{Sound};
 ghost use Rattle.dxil_form.specs.Wired.{Wired};
 ghost use Rattle.region_laws.specs.Roots.{closed};
 ghost use Rattle.region_laws.specs.Paths.{PassesAll};
+ghost use Rattle.region_builder.specs.Started.{IsPartial};
 ghost use Rattle.dispatch_loop.specs.Whole.{IsOneDispatch};
 
 use dx_base::{Cases, List, Numbers, OutOfMemory};
 use dxil_form::{Program, Region, RegionList, Regions};
+use region_builder::Partial;
 use region_leaves::{leaf_roots, leaves, reachable};
 use std::alloc::Global;
 
@@ -50,4 +53,13 @@ pub fn all(alloc: Global, p: &Program) -> Result<Regions, OutOfMemory>
     let list = leaves(alloc, blocks.as_slice())?;
     let roots = leaf_roots(alloc, blocks.as_slice())?;
     close(alloc, list, &roots)
+}
+
+/// Puts one dispatch over the roots that are left, where there are several, behind all regions.
+pub fn finish(alloc: Global, partial: Partial) -> Result<Regions, OutOfMemory>
+    requires { (p : Program) × IsPartial p partial }
+    ensures exact { IfOk result (λ regions. regions.list ≡ closed partial.list partial.roots) }
+    ensures wired { IfOk result (λ regions. (p : Program) → IsPartial p partial → Wired p regions.list) }
+{
+    close(alloc, partial.list, &partial.roots)
 }

@@ -1,0 +1,10 @@
+pub mod Growing
+pub mod Counting
+pub mod Steps
+pub mod Absorbing
+pub mod Branching
+pub mod Naming
+pub mod Starting
+pub mod Sizes
+pub mod Finding
+pub mod Leaving

@@ -1,0 +1,37 @@
+use Rattle.std.proofs.Common.{◌≡◌, ◌+◌, ℕ, List, length, ◌∷◌, ◌++◌, [], ap, subst, sym, arith}
+use Rattle.std.proofs.lemmas.Grind.{common_steps}
+use Rattle.flow_graph.specs.Shapes.{plain}
+use Rattle.region_builder.specs.Children.{AreChildrenBelow}
+use Rattle.region_builder.proofs.Finding.{no_children, child_on, children_on}
+use Rattle.region_builder.proofs.builder.Builder.children.Goals as goal
+use Rattle.region_builder.proofs.builder.Builder.children.Goals.{else-eq-via-then-eq+then-is_child+else-is_err, else-eq-via-then-eq+else-is_child, else-eq-via-else-eq}
+
+pub loop-j-init : goal.loop-j-init
+loop-j-init c = record {
+  least = omega arith;
+  are = (let P : List ℕ → Type 0 = λ l. AreChildrenBelow (plain c.args.self.now.graph) c.args.a 1 l in
+      subst P (sym c.new-nodes.ensures.items) (no_children (plain c.args.self.now.graph) c.args.a));
+}
+
+pub loop-j-preserved : goal.loop-j-preserved
+loop-j-preserved c =
+    let g = plain c.args.self.now.graph in
+    let P : List ℕ → Type 0 = λ l. AreChildrenBelow (plain c.args.self.now.graph) c.args.a (c.loop-j.j + 1) l in
+    record {
+      least = omega arith;
+      are = elim c.else-eq.branch [
+        | else-eq-via-then-eq+then-is_child+else-is_err w ↦ (
+            let q : c.else-eq.nodes.items ≡ c.loop-j.nodes.items ++ c.loop-j.j ∷ [] = grind (arith, common_steps) in
+            subst P (sym q) (child_on g c.args.a c.loop-j.j c.loop-j.nodes.items c.loop-j.invariant.are c.loop-j.invariant.least (w.is_child.ensures.yes w.if-is_child.true)))
+        | else-eq-via-then-eq+else-is_child w ↦ subst P (sym (ap (λ v. v.items) w.nodes-is)) (children_on g c.args.a c.loop-j.j c.loop-j.nodes.items c.loop-j.invariant.are)
+        | else-eq-via-else-eq w ↦ subst P (sym (ap (λ v. v.items) w.nodes-is)) (children_on g c.args.a c.loop-j.j c.loop-j.nodes.items c.loop-j.invariant.are)
+      ];
+    }
+
+pub returns : goal.returns
+returns c =
+    let (p, b) = c.requires.built in
+    let l = b.formed.within 0 b.formed.entry in
+    let n = b.count in
+    let e : c.loop-j.j ≡ length c.args.self.now.blocks.items = omega (arith, c.loop-j.auto.j-end) in
+    let P : ℕ → Type 0 = λ k. AreChildrenBelow (plain c.args.self.now.graph) c.args.a k c.loop-j.nodes.items in subst P e c.loop-j.invariant.are

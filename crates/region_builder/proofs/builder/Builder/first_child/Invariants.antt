@@ -1,0 +1,7 @@
+use Rattle.std.proofs.Common.{◌≢◌, ◌<◌, ◌≤◌, ℕ}
+use Rattle.flow_graph.specs.Shapes.{plain}
+use Rattle.dxil_form.specs.Graphs.{SolePred}
+use Rattle.region_builder.proofs.builder.Builder.first_child.Given as goal
+
+abbrev pub invariant-loop-j : goal.invariant-loop-j
+invariant-loop-j l = record { least : 1 ≤ l.j; none : (j : ℕ) → j ≢ 0 → j < l.j → SolePred (plain l.self.graph) l.a j → ⊥ }

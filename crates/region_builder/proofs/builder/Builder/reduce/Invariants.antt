@@ -1,0 +1,8 @@
+use Rattle.region_builder.specs.Built.{Keeps, SameRings, size}
+use Rattle.region_builder.proofs.builder.Builder.reduce.Given as goal
+
+abbrev pub invariant-loop : goal.invariant-loop
+invariant-loop l = record { keeps : Keeps l.fn.self l.self; rings : SameRings l.fn.self.graph l.self.graph }
+
+abbrev pub decreases-loop : goal.decreases-loop
+decreases-loop l = size l.self.graph

@@ -1,0 +1,5 @@
+pub mod Nodes
+pub mod Started
+pub mod Built
+pub mod Absorbing
+pub mod Children

@@ -1,0 +1,133 @@
+//! From leaves to the roots that are left.
+
+ghost use Rattle.std.specs.Prelude.{◌≡◌, ◌<◌, ◌↔◌, ◌^◌, ◌∷◌, ◌++◌, [], ℕ, cond, length, map, slice_index, true, IfOk, OnOk};
+ghost use Rattle.dxil_form.specs.declared.program.Program.{Program};
+ghost use Rattle.dxil_form.specs.Graphs.{Crossed};
+ghost use Rattle.flow_graph.specs.Shapes.{plain};
+ghost use Rattle.region_builder.specs.Started.{IsStarted, IsPartial};
+ghost use Rattle.region_builder.specs.Built.{IsBuilt, BuiltBy, AllSettled};
+ghost use Rattle.region_builder.specs.Children.{AreRoots};
+
+use crate::builder::Builder;
+use crate::partial::Partial;
+use dx_base::{Cases, List, OutOfMemory};
+use flow_graph::Graph;
+use std::alloc::Global;
+
+/// The blocks that enter the roots.
+fn blocks_of(alloc: Global, roots: &[(u32, u32)]) -> Result<Vec<u32>, OutOfMemory>
+    ensures { IfOk result (λ blocks. blocks.items ≡ map (λ root. root.0) roots.now) }
+{
+    let mut blocks = Vec::new(alloc);
+    for root in roots {
+        if blocks.push(root.0).is_err() {
+            return Err(OutOfMemory);
+        }
+    }
+    Ok(blocks)
+}
+
+/// The places of the roots.
+fn places_of(alloc: Global, roots: &[(u32, u32)]) -> Result<Vec<u32>, OutOfMemory>
+    ensures { IfOk result (λ places. places.items ≡ map (λ root. root.1) roots.now) }
+{
+    let mut places = Vec::new(alloc);
+    for root in roots {
+        if places.push(root.1).is_err() {
+            return Err(OutOfMemory);
+        }
+    }
+    Ok(places)
+}
+
+/// Regions under roots, before anything was done.
+fn open(alloc: Global, partial: Partial) -> Result<Builder, OutOfMemory>
+    requires { (p : Program) × IsStarted p partial }
+    ensures built { IfOk result (λ builder. (p : Program) → IsStarted p partial → BuiltBy p builder) }
+    ensures live { IfOk result (λ builder. (i : ℕ) → i < length builder.blocks.items → (plain builder.graph).live i ≡ true) }
+    ensures graph { IfOk result (λ builder. builder.graph ≡ partial.graph) }
+{
+    let blocks = blocks_of(alloc, partial.roots.as_slice())?;
+    let places = places_of(alloc, partial.roots.as_slice())?;
+    Ok(Builder {
+        list: partial.list,
+        blocks,
+        places,
+        graph: partial.graph,
+    })
+}
+
+/// The sole predecessor of each of the first nodes, which are live.
+fn sole_preds(alloc: Global, graph: &Graph, count: usize) -> Result<Vec<Option<u32>>, OutOfMemory>
+    requires few { count < 2 ^ 32 }
+    requires live { (i : ℕ) → i < count → (plain graph.now).live i ≡ true }
+    ensures { IfOk result (λ preds. length preds.items ≡ count) }
+{
+    let mut preds = Vec::new(alloc);
+    for j in 0..count {
+        if preds.push(graph.sole_pred(j as u32)).is_err() {
+            return Err(OutOfMemory);
+        }
+    }
+    Ok(preds)
+}
+
+/// Adds a root, if its node is live.
+fn add_root(roots: &mut Cases, live: bool, block: u32, place: u32) -> Result<(), OutOfMemory>
+    ensures { OnOk result (roots.new ≡ cond live (roots.old ++ (block, place) ∷ []) roots.old) }
+{
+    if live && roots.push((block, place)).is_err() {
+        return Err(OutOfMemory);
+    }
+    Ok(())
+}
+
+/// The roots of the live nodes, in order.
+fn live_roots(
+    alloc: Global,
+    graph: &Graph,
+    blocks: &[u32],
+    places: &[u32],
+) -> Result<Cases, OutOfMemory>
+    requires count { graph.now.count ≡ length blocks.now }
+    requires few { length blocks.now < 2 ^ 32 }
+    requires places { length places.now ≡ length blocks.now }
+    requires rising { (i j : ℕ) → i < j → j < length blocks.now → slice_index blocks.now i < slice_index blocks.now j }
+    ensures { IfOk result (λ roots. AreRoots (plain graph.now) (length blocks.now) blocks.now places.now roots) }
+{
+    let mut roots: Cases = List::new(alloc);
+    for i in 0..blocks.len() {
+        let live = graph.is_live(i as u32);
+        add_root(&mut roots, live, blocks[i], places[i])?;
+    }
+    Ok(roots)
+}
+
+/// The regions and roots that are left.
+fn shut(alloc: Global, builder: Builder) -> Result<Partial, OutOfMemory>
+    requires built { IsBuilt builder }
+    requires settled { AllSettled (plain builder.graph) }
+    ensures partial { IfOk result (λ left. (p : Program) → BuiltBy p builder → IsPartial p left) }
+    ensures single { IfOk result (λ left. (length left.roots ≡ 1) ↔ (Crossed (plain builder.graph) → ⊥)) }
+{
+    let roots = live_roots(alloc, &builder.graph, &builder.blocks, &builder.places)?;
+    Ok(Partial {
+        list: builder.list,
+        roots,
+        graph: builder.graph,
+    })
+}
+
+/// Puts regions together as far as the rewriting of their graph leads.
+///
+/// One root is left exactly where no ring of the graph has two entrances.
+pub fn build(alloc: Global, partial: Partial) -> Result<Partial, OutOfMemory>
+    requires { (p : Program) × IsStarted p partial }
+    ensures partial { IfOk result (λ left. (p : Program) → IsStarted p partial → IsPartial p left) }
+    ensures single { IfOk result (λ left. (length left.roots ≡ 1) ↔ (Crossed (plain partial.graph) → ⊥)) }
+{
+    let mut builder = open(alloc, partial)?;
+    let firsts = sole_preds(alloc, &builder.graph, builder.blocks.len())?;
+    builder.reduce(alloc, &firsts)?;
+    shut(alloc, builder)
+}
