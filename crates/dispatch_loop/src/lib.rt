@@ -60,6 +60,7 @@ pub fn finish(alloc: Global, partial: Partial) -> Result<Regions, OutOfMemory>
     requires { (p : Program) × IsPartial p partial }
     ensures exact { IfOk result (λ regions. regions.list ≡ closed partial.list partial.roots) }
     ensures wired { IfOk result (λ regions. (p : Program) → IsPartial p partial → Wired p regions.list) }
+    ensures passes { IfOk result (λ regions. (p : Program) → IsPartial p partial → PassesAll p regions.list) }
 {
     close(alloc, partial.list, &partial.roots)
 }

@@ -104,7 +104,7 @@ pub absorber_lives : (g : Graph) (a j : ℕ) → SolePred g a j → g.live a ≡
 absorber_lives g a j p l = and_from (g.live a) (not (eqb a j)) l (not_from_false (eqb a j) (ne_eqb a j p.other))
 
 pub same_blocks : (old new : Builder) → IsBuilt old → Keeps old new → SameRings old.graph new.graph → length new.blocks.items ≡ length old.blocks.items
-same_blocks old new (p, b) k r = let n = k p b in let x = b.count in let y = n.count in let z = r.count in omega arith
+same_blocks old new (p, b) k r = let n = k p b in let x = b.built.count in let y = n.built.count in let z = r.count in omega arith
 
 pub went_fold : (old new : Builder) (done : Bool) → Keeps old new → SameRings old.graph new.graph → (done ≡ true → size new.graph < size old.graph)
     → (done ≡ false → plain new.graph ≡ plain old.graph) → Went old new done

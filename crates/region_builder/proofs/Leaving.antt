@@ -79,7 +79,7 @@ root_on g n blocks places roots are false tells below =
     dead_on g n blocks places roots are (false_from_ne_true (g.live n) (λ t. false≢true (tells.1 t)))
 
 -- a block stands at one place
-one_block : {p : Program} {blocks : List ℕ} → AreReachable p blocks → (i j : ℕ) → i < length blocks → j < length blocks → get_or blocks i 0 ≡ get_or blocks j 0 → i ≡ j
+pub one_block : {p : Program} {blocks : List ℕ} → AreReachable p blocks → (i j : ℕ) → i < length blocks → j < length blocks → get_or blocks i 0 ≡ get_or blocks j 0 → i ≡ j
 one_block are i j l m e = elim (cases_order i j) [
   | inl q ↦ q
   | inr (inl below) ↦ (let r = are.rising i j below m in absurd (omega arith))
@@ -97,7 +97,7 @@ first_block_of p sound blocks are =
     ]
 
 module _ (p : Program) (list : List Region) (blocks places : List ℕ) (g : Graph) (b : Built p list blocks places g) (roots : List (ℕ × ℕ)) (are : AreRoots g (length blocks) blocks places roots) where
-  inside : (i : ℕ) → g.live i ≡ true → i < length blocks
+  pub inside : (i : ℕ) → g.live i ≡ true → i < length blocks
   inside i l = let x = b.formed.within i l in let c = b.count in omega arith
 
   -- the live node of a root

@@ -8,3 +8,7 @@ pub mod Starting
 pub mod Sizes
 pub mod Finding
 pub mod Leaving
+pub mod Walking
+pub mod ArmsWalking
+pub mod EndWalking
+pub mod Opening

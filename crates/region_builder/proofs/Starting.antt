@@ -182,33 +182,18 @@ module _ (p : Program) (sound : Sound p) (blocks : List ℕ) (are : AreReachable
     );
   })
 
-firsts_placed : (i : ℕ) (bs : List ℕ) → map (λ (root : ℕ × ℕ). root.0) (placed_from i bs) ≡ bs
+pub firsts_placed : (i : ℕ) (bs : List ℕ) → map (λ (root : ℕ × ℕ). root.0) (placed_from i bs) ≡ bs
 firsts_placed i [] = refl
 firsts_placed i (b ∷ bs) = ap (λ (l : List ℕ). b ∷ l) (firsts_placed (suc i) bs)
 
-seconds_length : (i : ℕ) (bs : List ℕ) → length (map (λ (root : ℕ × ℕ). root.1) (placed_from i bs)) ≡ length bs
+pub seconds_length : (i : ℕ) (bs : List ℕ) → length (map (λ (root : ℕ × ℕ). root.1) (placed_from i bs)) ≡ length bs
 seconds_length i [] = refl
 seconds_length i (b ∷ bs) = ap suc (seconds_length (suc i) bs)
 
-seconds_at : (i : ℕ) (bs : List ℕ) (k : ℕ) → k < length bs → get_or (map (λ (root : ℕ × ℕ). root.1) (placed_from i bs)) k 0 ≡ i + k
+pub seconds_at : (i : ℕ) (bs : List ℕ) (k : ℕ) → k < length bs → get_or (map (λ (root : ℕ × ℕ). root.1) (placed_from i bs)) k 0 ≡ i + k
 seconds_at i [] k l = absurd (omega arith)
 seconds_at i (b ∷ bs) zero l = omega arith
 seconds_at i (b ∷ bs) (suc k) l = let e = seconds_at (suc i) bs k (omega arith) in omega arith
-
-pub started_built : (p : Program) (partial : Partial) → IsStarted p partial → (bs ps : List ℕ)
-    → bs ≡ map (λ (root : ℕ × ℕ). root.0) partial.roots → ps ≡ map (λ (root : ℕ × ℕ). root.1) partial.roots
-    → (list : List Region) → list ≡ partial.list → (s : Shape) → s ≡ partial.graph → Built p list bs ps (plain s)
-started_built p partial is bs ps x y list z s w =
-    let firsts : bs ≡ is.blocks = x ∙ ap (λ (l : List (ℕ × ℕ)). map (λ (root : ℕ × ℕ). root.0) l) is.roots ∙ firsts_placed 0 is.blocks in
-    let seconds : ps ≡ map (λ (root : ℕ × ℕ). root.1) (placed_from 0 is.blocks) = y ∙ ap (λ (l : List (ℕ × ℕ)). map (λ (root : ℕ × ℕ). root.1) l) is.roots in
-    let leaves : list ≡ leaves_of is.blocks = z ∙ is.list in
-    let S : Shape → Type 0 = λ v. IsNodeGraph p is.blocks (plain v) in
-    let built = start_built p is.sound is.blocks is.reachable is.few (plain s) (subst S (sym w) is.graph)
-    (map (λ (root : ℕ × ℕ). root.1) (placed_from 0 is.blocks)) (seconds_length 0 is.blocks) (λ i l. seconds_at 0 is.blocks i l ∙ omega arith) in
-    let P : List Region → Type 0 = λ l. Built p l bs ps (plain s) in
-    let Q : List ℕ → Type 0 = λ l. Built p (leaves_of is.blocks) l ps (plain s) in
-    let R : List ℕ → Type 0 = λ l. Built p (leaves_of is.blocks) is.blocks l (plain s) in
-    subst P (sym leaves) (subst Q (sym firsts) (subst R (sym seconds) built))
 
 pub started_live : (p : Program) (partial : Partial) → IsStarted p partial → (bs : List ℕ) → bs ≡ map (λ (root : ℕ × ℕ). root.0) partial.roots
     → (length bs ≤ 400) × ((i : ℕ) → i < length bs → (plain partial.graph).live i ≡ true)

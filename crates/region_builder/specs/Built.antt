@@ -10,6 +10,7 @@ use Rattle.dxil_form.specs.Walks.{EnteredBy}
 use Rattle.dxil_form.specs.Wired.{IsPart, MayWant}
 use Rattle.flow_graph.specs.Shapes.{Shape, plain}
 use Rattle.region_leaves.specs.Leaves.{AreReachable}
+use Rattle.region_builder.specs.Walked.{Walked}
 use Rattle.region_builder.specs.declared.builder.Builder.{Builder}
 
 -- what is true of a list of regions whatever its roots are
@@ -49,8 +50,10 @@ pub record Built (p : Program) (list : List Region) (blocks places : List ℕ) (
   pub wanted : (i j : ℕ) → g.edge i j ≡ true → MayWant p list (slice_index places i) (slice_index blocks j)
   pub few : length list + 2 * count_below g.count g.live + self_edges g ≤ 4 * length blocks
 
-abbrev pub BuiltBy : Program → Builder → Type 0
-BuiltBy p b = Built p b.list b.blocks.items b.places.items (plain b.graph)
+-- how the regions are put together, and what they pass
+pub record BuiltBy (p : Program) (b : Builder) : Type 0 where
+  pub built : Built p b.list b.blocks.items b.places.items (plain b.graph)
+  pub walked : Walked p b.list b.blocks.items b.places.items (plain b.graph)
 
 -- some program has these regions
 abbrev pub IsBuilt : Builder → Type 0

@@ -5,9 +5,11 @@ use Rattle.dxil_form.specs.declared.region.Region.{Region}
 use Rattle.dxil_form.specs.Graphs.{Graph}
 use Rattle.dxil_form.specs.Branches.{branches}
 use Rattle.dxil_form.specs.Sound.{Sound}
+use Rattle.dxil_form.specs.Walks.{Goes}
 use Rattle.dxil_form.specs.Wired.{MayWant}
 use Rattle.flow_graph.specs.Shapes.{plain}
 use Rattle.region_laws.specs.Roots.{HasRoot, WiredRoots}
+use Rattle.region_laws.specs.Paths.{RootsPass}
 use Rattle.region_leaves.specs.Leaves.{AreReachable, leaves_of, placed_from}
 use Rattle.region_builder.specs.declared.partial.Partial.{Partial}
 
@@ -37,6 +39,11 @@ abbrev pub WantsAlongEdges : Program → List ℕ → List Region → List (ℕ 
 WantsAlongEdges p blocks list roots g =
     (i b r : ℕ) → slice_get blocks i ≡ Some b → HasRoot roots b r → (j k : ℕ) → slice_get blocks j ≡ Some k → (g.edge i j ≡ true) ↔ MayWant p list r k
 
+-- and it wants that root after some walk
+abbrev pub WalksAlongEdges : Program → List ℕ → List Region → List (ℕ × ℕ) → Graph → Type 0
+WalksAlongEdges p blocks list roots g =
+    (i b r : ℕ) → slice_get blocks i ≡ Some b → HasRoot roots b r → (j k : ℕ) → slice_get blocks j ≡ Some k → (g.edge i j ≡ true) ↔ ((w : List ℕ) × Goes p list r w (Some k))
+
 -- regions under the roots that are left
 pub record IsPartial (p : Program) (partial : Partial) : Type 0 where
   pub sound : Sound p
@@ -45,3 +52,5 @@ pub record IsPartial (p : Program) (partial : Partial) : Type 0 where
   pub wired : WiredRoots p partial.list partial.roots
   pub nodes : HasNodes blocks partial.roots (plain partial.graph)
   pub wants : WantsAlongEdges p blocks partial.list partial.roots (plain partial.graph)
+  pub passes : RootsPass p partial.list partial.roots
+  pub walks : WalksAlongEdges p blocks partial.list partial.roots (plain partial.graph)

@@ -4,3 +4,5 @@ pub mod Closing
 pub mod Walking
 pub mod Runs
 pub mod Turning
+pub mod Standing
+pub mod Going

@@ -1,3 +1,4 @@
 pub mod Roots
 pub mod Paths
 pub mod Laws
+pub mod Standing

@@ -1,5 +1,7 @@
-use Rattle.std.proofs.Common.{◌≡◌, ℕ, List, map, ap, refl, ◌∙◌}
-use Rattle.region_builder.proofs.Starting.{started_built, started_live}
+use Rattle.std.proofs.Common.{◌≡◌, ◌<◌, ℕ, List, length, map, ap, subst, sym, refl, ◌∙◌, arith}
+use Rattle.flow_graph.specs.Shapes.{plain}
+use Rattle.region_builder.proofs.Starting.{started_live}
+use Rattle.region_builder.proofs.Opening.{started_built}
 use Rattle.region_builder.proofs.whole.open.Goals as goal
 use Rattle.region_builder.proofs.whole.open.Goals.{In_ok-places}
 
@@ -12,7 +14,7 @@ places_are c = c.in_ok-places.ensures ∙ ap (λ (l : List (ℕ × ℕ)). map (�
 pub returns-clause-built : goal.returns-clause-built
 returns-clause-built c p is =
     let d = (goal.at.returns-clause-built c).In_ok-places in
-    started_built p c.args.partial is c.in_ok-blocks.blocks.items c.in_ok-places.places.items (blocks_are d) (places_are d) c.args.partial.list refl c.args.partial.graph refl
+    started_built p c.args.partial is _ (blocks_are d) (places_are d) refl refl
 
 pub returns-clause-live : goal.returns-clause-live
 returns-clause-live c =

@@ -2,22 +2,23 @@ use Rattle.std.proofs.Common.{◌<◌, ℕ, List, length, get_or, ap, subst, sym
 use Rattle.flow_graph.specs.Shapes.{plain}
 use Rattle.region_builder.specs.Children.{AreRoots}
 use Rattle.region_builder.proofs.Leaving.{roots_wired, roots_nodes, roots_want, single_root}
+use Rattle.region_builder.proofs.EndWalking.{roots_pass, roots_walk}
 use Rattle.region_builder.proofs.whole.shut.Goals as goal
 use Rattle.region_builder.proofs.whole.shut.Goals.{In_ok-roots}
 
 pub live_roots-requires-clause-count : goal.live_roots-requires-clause-count
-live_roots-requires-clause-count c = let (p, b) = c.requires.built in b.count ∙ ap (λ (l : List ℕ). length l) (sym c.deref.ensures.value)
+live_roots-requires-clause-count c = let (p, b) = c.requires.built in b.built.count ∙ ap (λ (l : List ℕ). length l) (sym c.deref.ensures.value)
 
 pub live_roots-requires-clause-few : goal.live_roots-requires-clause-few
 live_roots-requires-clause-few c =
     let (p, b) = c.requires.built in
-    let f = b.few_blocks in
+    let f = b.built.few_blocks in
     let e = ap (λ (l : List ℕ). length l) c.deref.ensures.value in omega arith
 
 pub live_roots-requires-clause-places : goal.live_roots-requires-clause-places
 live_roots-requires-clause-places c =
     let (p, b) = c.requires.built in
-    let n = b.places_count in
+    let n = b.built.places_count in
     let e = ap (λ (l : List ℕ). length l) c.deref.ensures.value in
     let f = ap (λ (l : List ℕ). length l) c.deref-2.ensures.value in omega arith
 
@@ -25,7 +26,7 @@ pub live_roots-requires-clause-rising : goal.live_roots-requires-clause-rising
 live_roots-requires-clause-rising c =
     let (p, b) = c.requires.built in
     let P : List ℕ → Type 0 = λ l. (i j : ℕ) → i < j → j < length l → get_or l i 0 < get_or l j 0 in
-    subst P (sym c.deref.ensures.value) b.reachable.rising
+    subst P (sym c.deref.ensures.value) b.built.reachable.rising
 
 are : (c : In_ok-roots) → AreRoots (plain c.args.builder.graph) (length c.args.builder.blocks.items) c.args.builder.blocks.items c.args.builder.places.items c.in_ok-roots.roots
 are c =
@@ -37,16 +38,18 @@ pub returns-clause-partial : goal.returns-clause-partial
 returns-clause-partial c p b =
     let r = are (goal.at.returns-clause-partial c).In_ok-roots in
     record {
-      sound = b.sound;
+      sound = b.built.sound;
       blocks = c.args.builder.blocks.items;
-      reachable = b.reachable;
-      wired = roots_wired p c.args.builder.list c.args.builder.blocks.items c.args.builder.places.items (plain c.args.builder.graph) b c.in_ok-roots.roots r;
-      nodes = roots_nodes p c.args.builder.list c.args.builder.blocks.items c.args.builder.places.items (plain c.args.builder.graph) b c.in_ok-roots.roots r;
-      wants = roots_want p c.args.builder.list c.args.builder.blocks.items c.args.builder.places.items (plain c.args.builder.graph) b c.in_ok-roots.roots r;
+      reachable = b.built.reachable;
+      wired = roots_wired p c.args.builder.list c.args.builder.blocks.items c.args.builder.places.items (plain c.args.builder.graph) b.built c.in_ok-roots.roots r;
+      nodes = roots_nodes p c.args.builder.list c.args.builder.blocks.items c.args.builder.places.items (plain c.args.builder.graph) b.built c.in_ok-roots.roots r;
+      passes = roots_pass p c.args.builder.list c.args.builder.blocks.items c.args.builder.places.items (plain c.args.builder.graph) b.built b.walked c.requires.settled c.in_ok-roots.roots r;
+      walks = roots_walk p c.args.builder.list c.args.builder.blocks.items c.args.builder.places.items (plain c.args.builder.graph) b.built b.walked c.requires.settled c.in_ok-roots.roots r;
+      wants = roots_want p c.args.builder.list c.args.builder.blocks.items c.args.builder.places.items (plain c.args.builder.graph) b.built c.in_ok-roots.roots r;
     }
 
 pub returns-clause-single : goal.returns-clause-single
 returns-clause-single c =
     let (p, b) = c.requires.built in
-    single_root p c.args.builder.list c.args.builder.blocks.items c.args.builder.places.items (plain c.args.builder.graph) b c.in_ok-roots.roots
+    single_root p c.args.builder.list c.args.builder.blocks.items c.args.builder.places.items (plain c.args.builder.graph) b.built c.in_ok-roots.roots
     (are (goal.at.returns-clause-single c).In_ok-roots) c.requires.settled

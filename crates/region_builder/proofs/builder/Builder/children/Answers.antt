@@ -31,7 +31,7 @@ loop-j-preserved c =
 pub returns : goal.returns
 returns c =
     let (p, b) = c.requires.built in
-    let l = b.formed.within 0 b.formed.entry in
-    let n = b.count in
+    let l = b.built.formed.within 0 b.built.formed.entry in
+    let n = b.built.count in
     let e : c.loop-j.j ≡ length c.args.self.now.blocks.items = omega (arith, c.loop-j.auto.j-end) in
     let P : ℕ → Type 0 = λ k. AreChildrenBelow (plain c.args.self.now.graph) c.args.a k c.loop-j.nodes.items in subst P e c.loop-j.invariant.are

@@ -5,16 +5,17 @@ use Rattle.dxil_form.specs.Graphs.{absorbed}
 use Rattle.flow_graph.specs.Shapes.{Shape, plain}
 use Rattle.graph_laws.proofs.Rewrites.{absorb_keeps}
 use Rattle.region_builder.proofs.Steps.{join_left}
+use Rattle.region_builder.proofs.Walking.{join_walks}
 use Rattle.region_builder.proofs.Sizes.{absorb_less, less_of, rings_of}
 use Rattle.region_builder.proofs.builder.Builder.join.Goals as goal
 
 pub returns-clause-built : goal.returns-clause-built
 returns-clause-built c p b =
     let pred = c.requires.sole in
-    let count = b.count in
-    let same = b.places_count in
-    let x = b.formed.within c.args.a (b.formed.from c.args.a c.args.j pred.edge) in
-    let y = b.formed.within c.args.j (b.formed.to c.args.a c.args.j pred.edge) in
+    let count = b.built.count in
+    let same = b.built.places_count in
+    let x = b.built.formed.within c.args.a (b.built.formed.from c.args.a c.args.j pred.edge) in
+    let y = b.built.formed.within c.args.j (b.built.formed.to c.args.a c.args.j pred.edge) in
     let first : c.index-first.result.now ≡ get_or c.args.self.now.places.items c.args.a 0 = c.index-first.ensures ∙ get_or_default c.args.self.now.places.items c.args.a _ 0 (omega arith) in
     let second : c.index-second.result.now ≡ get_or c.args.self.now.places.items c.args.j 0 = c.index-second.ensures ∙ get_or_default c.args.self.now.places.items c.args.j _ 0 (omega arith) in
     let target : c.index-target.result.now ≡ get_or c.args.self.now.blocks.items c.args.j 0 = c.index-target.ensures ∙ get_or_default c.args.self.now.blocks.items c.args.j _ 0 (omega arith) in
@@ -22,8 +23,12 @@ returns-clause-built c p b =
     ≡ Then (get_or c.args.self.now.places.items c.args.a 0) (get_or c.args.self.now.places.items c.args.j 0) (get_or c.args.self.now.blocks.items c.args.j 0) = cc in
     let graph : plain c.absorb.new.self ≡ absorbed (plain c.args.self.now.graph) c.args.a c.args.j =
     c.absorb.ensures ∙ ap (λ (s : Shape). absorbed (plain s) c.args.a c.args.j) c.in_ok-add.ensures.graph in
-    join_left p c.args.self.now.list c.args.self.now.blocks.items c.args.self.now.places.items (plain c.args.self.now.graph) b c.args.a c.args.j c.requires.entry pred
-    _ region _ _ _ _ c.in_ok-add.ensures.list c.in_ok-add.ensures.blocks c.in_ok-add.ensures.places graph
+    record {
+      built = join_left p c.args.self.now.list c.args.self.now.blocks.items c.args.self.now.places.items (plain c.args.self.now.graph) b.built c.args.a c.args.j c.requires.entry pred
+          _ region _ _ _ _ c.in_ok-add.ensures.list c.in_ok-add.ensures.blocks c.in_ok-add.ensures.places graph;
+      walked = join_walks p c.args.self.now.list c.args.self.now.blocks.items c.args.self.now.places.items (plain c.args.self.now.graph) b.built b.walked c.args.a c.args.j c.requires.entry pred
+          _ region _ _ _ _ c.in_ok-add.ensures.list c.in_ok-add.ensures.blocks c.in_ok-add.ensures.places graph;
+    }
 
 pub returns-clause-rings : goal.returns-clause-rings
 returns-clause-rings c =
@@ -36,4 +41,4 @@ returns-clause-smaller c =
     let (p, b) = c.requires.built in
     let graph : plain c.absorb.new.self ≡ absorbed (plain c.args.self.now.graph) c.args.a c.args.j =
     c.absorb.ensures ∙ ap (λ (s : Shape). absorbed (plain s) c.args.a c.args.j) c.in_ok-add.ensures.graph in
-    less_of _ c.args.self.now.graph c.absorb.new.self graph (absorb_less (plain c.args.self.now.graph) b.formed c.args.a c.args.j c.requires.entry c.requires.sole)
+    less_of _ c.args.self.now.graph c.absorb.new.self graph (absorb_less (plain c.args.self.now.graph) b.built.formed c.args.a c.args.j c.requires.entry c.requires.sole)
