@@ -1,15 +1,15 @@
 -- The kinds that the operand places of a line ask.
-use Rattle.std.specs.Prelude.{ℕ, ◌+◌, ◌==◌, ◌&&◌, ◌||◌, List, [], ◌∷◌, length, drop, map, get_or, slice_get, filter, Bool, true, false, not, nat_lt, if◌then◌else◌, Option, Some, None}
-use Rattle.std.specs.List.{list_any, list_all}
+use Rattle.std.specs.Prelude.{ℕ, ◌+◌, ◌==◌, ◌&&◌, ◌||◌, List, [], ◌∷◌, length, drop, map, slice_get, filter, Bool, true, false, not, nat_lt, if◌then◌else◌, Option, Some, None}
+use Rattle.std.specs.List.{list_all}
 use Rattle.dxil_form.specs.declared.op.OpKind.{OpKind}
 use Rattle.llvm_types.specs.declared.kind.LlvmType.{LlvmType}
 use Rattle.llvm_types.specs.declared.kind.LlvmType.TheVariants as types
 use Rattle.llvm_bodies.specs.declared.line.Line.{Line}
 use Rattle.profile_lines.specs.Pool.{Pool, stated}
-use Rattle.profile_lines.specs.Calls.{operand, carried, argument, operation, arguments, outcome}
-use Rattle.profile_lines.specs.Values.{kind_by, kind_in, call_type, is_variable}
+use Rattle.profile_lines.specs.Calls.{operand, carried, operation, arguments, outcome}
+use Rattle.profile_lines.specs.Values.{kind_by, call_type, is_variable}
 use Rattle.profile_lines.specs.declared.call.Argument.{Argument}
-use Rattle.profile_lines.specs.declared.call.Argument.TheVariants.{Handle, Number, Constant}
+use Rattle.profile_lines.specs.declared.call.Argument.TheVariants.{Number}
 use Rattle.profile_lines.specs.declared.call.Outcome.{Outcome}
 use Rattle.profile_lines.specs.declared.call.Outcome.TheVariants as gives
 use Rattle.profile_lines.specs.declared.known.ValueKind.{ValueKind}

@@ -1,2 +1,5 @@
 pub mod Asked
 pub mod Rules
+pub mod Helping
+pub mod Seen
+pub mod Checking

@@ -1,8 +1,8 @@
 -- The rules of the profile, P1 to P22, and the limit of resources: sentences of a line of the entry body and of the lines before it. Where several hold, the one of
 -- least bit counts, and at one bit the one of least number. The limit has the number 23.
-use Rattle.std.specs.Prelude.{ℕ, ◌+◌, ◌*◌, ◌/◌, ◌%◌, ◌^◌, ◌==◌, ◌&&◌, ◌||◌, List, [], ◌∷◌, ◌++◌, length, drop, map, get_or, slice_get, Bool, true, false, not, nat_lt, nat_le, if◌then◌else◌, Option, Some, None, is_some}
-use Rattle.std.specs.List.{list_any, list_all, range_with_len}
-use Rattle.dx_base.specs.First.{IsFirst, IsSound, IsBroken}
+use Rattle.std.specs.Prelude.{ℕ, ◌+◌, ◌*◌, ◌/◌, ◌%◌, ◌^◌, ◌==◌, ◌&&◌, ◌||◌, List, [], ◌∷◌, ◌++◌, length, slice_get, Bool, true, false, not, nat_lt, nat_le, if◌then◌else◌, Option, Some, None, is_some}
+use Rattle.std.specs.List.{list_any}
+use Rattle.dx_base.specs.First.{IsBroken}
 use Rattle.dx_base.specs.Sentences.{Stated}
 use Rattle.dxil_form.specs.declared.op.OpKind.{OpKind}
 use Rattle.dxil_form.specs.declared.op.OpKind.TheVariants.{CreateHandle, CBufferLoad, BufferLoad, BufferStore, AtomicBinOp, AtomicCompareExchange, Barrier, ThreadId, GroupId, ThreadIdInGroup, RawLoad, RawStore}
@@ -13,13 +13,12 @@ use Rattle.llvm_facts.specs.declared.facts.Row.{Row}
 use Rattle.profile_lines.specs.Pool.{Pool, constant, constant_given}
 use Rattle.profile_lines.specs.Calls.{operand, carried, plain, argument, arguments, is_named, opcode, operation}
 use Rattle.profile_lines.specs.declared.call.Argument.{Argument}
-use Rattle.profile_lines.specs.declared.call.Argument.TheVariants.{Handle, Number, Constant}
-use Rattle.profile_lines.specs.declared.known.ValueKind.{ValueKind}
+use Rattle.profile_lines.specs.declared.call.Argument.TheVariants.{Constant}
 use Rattle.profile_lines.specs.declared.known.ValueKind.TheVariants.{Int, Bool as BoolKind}
 use Rattle.profile_tables.specs.EntryBody.{EntryBody, kind_at, setter}
 use Rattle.profile_tables.specs.Kinds.{is_kind, is_plain}
 use Rattle.profile_tables.specs.Places.{place_named, words_named}
-use Rattle.profile_tables.specs.Resources.{row_named, row_by, row_at, handle_row, rows_named, class_number}
+use Rattle.profile_tables.specs.Resources.{row_named, row_at, handle_row, rows_named, class_number}
 use Rattle.profile_tables.specs.Parts.{entries_of, cases_of, has_target, is_predecessor}
 use Rattle.profile_tables.specs.Operands.{operand_of, is_same}
 use Rattle.profile_tables.specs.declared.place.Place.{Place}
