@@ -18,8 +18,7 @@ use std::alloc::Global;
 
 /// The program that the records of a body state, with these thread counts of a group.
 ///
-/// The body is as the readers of a file give it, and breaks no rule and no limit of the profile. The time is n log n in the rows, and linear in the lines and
-/// their operands.
+/// The body is as the readers of a file give it, and breaks no rule and no limit of the profile.
 ///
 /// # Errors
 ///
