@@ -7,6 +7,7 @@ pub mod Edges
 pub mod Rewritten
 pub mod Marking
 pub mod Walking
+pub mod Backwards
 pub mod Choice
 pub mod Placing
 pub mod Made

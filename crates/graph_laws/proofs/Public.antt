@@ -55,7 +55,7 @@ module _ (g : Graph) (formed : IsFormed g) (reached : AllReached g) (a j : ℕ) 
       (xs, q)
 
   -- j is no head
-  not_head : (b : ℕ) → Loops g j b → ⊥
+  pub not_head : (b : ℕ) → Loops g j b → ⊥
   not_head b l =
       let q : l.last ≡ a = pred.sole l.last l.edge in
       let P : ℕ → Type 0 = λ y. Dom g j y in
