@@ -1,4 +1,4 @@
-//! The cells and lists of a list of edges, in time that is linear in the edges and the nodes.
+//! The cells and lists of a list of edges.
 //!
 //! The edges are grouped by source. Then those of one source are seen in a row, so that one mark for each target tells which is doubled.
 
