@@ -1,0 +1,10 @@
+pub mod Shapes
+pub mod Layouts
+pub mod Lines
+pub mod Walk
+pub mod Reach
+pub mod Targets
+pub mod Calls
+pub mod EntryFunction
+pub mod Facts
+pub mod Whole
