@@ -1,1 +1,3 @@
+pub mod Follows
 pub mod SmallModules
+pub mod TreeLaws

@@ -27,7 +27,9 @@ use Rattle.spirv_code.specs.declared.key.Slot.TheVariants.{Next, Kept, Want, Pic
 use Rattle.spirv_code.specs.Keys.{storage_class, built_in_number}
 use Rattle.spirv_code.specs.Plans.{Plan, inst, site_label, first_label, slots_from, table_from, results_from, global_id, rows_of, context_of}
 use Rattle.spirv_code.specs.Trees.{Tree, label_at, begins_plainly, place_of, root_of}
-use Rattle.spirv_code.specs.Rows.{label_inst, branch_inst, row_code}
+use Rattle.spirv_code.specs.Leaves.{followed}
+use Rattle.spirv_code.specs.Exits.{label_inst}
+use Rattle.spirv_code.specs.Rows.{onwards, row_code}
 
 -- ---- what a key names
 
@@ -190,12 +192,16 @@ slot_variables ids n (s ∷ slots) = slot_variable ids n s ∷ slot_variables id
 
 -- ---- the module
 
--- Shader; Logical and GLSL450; GLCompute, `main` and the interface; LocalSize
+-- GLCompute, `main` and the interface
+abbrev pub entry_point : Version → Plan → Inst
+entry_point v plan =
+    inst 15 (5 ∷ 1 ∷ 0x6E69_616D ∷ 0 ∷ interface v (table_from plan) plan.table)
+
+-- Shader; Logical and GLSL450; the entry point; LocalSize
 abbrev pub head : Program → Version → Plan → List Inst
 head p v plan =
     inst 17 (1 ∷ []) ∷ inst 14 (0 ∷ 1 ∷ []) ∷
-    inst 15 (5 ∷ 1 ∷ 0x6E69_616D ∷ 0 ∷ interface v (table_from plan) plan.table) ∷
-    inst 16 (1 ∷ 17 ∷ p.local) ∷ []
+    entry_point v plan ∷ inst 16 (1 ∷ 17 ∷ p.local) ∷ []
 
 -- the label of the function's first block: the leaf at which the tree begins, or a block that branches to the tree
 abbrev pub opening_label : Tree → ℕ
@@ -205,17 +211,20 @@ abbrev pub opening : Plan → Tree → List Inst
 opening plan tree =
     inst 54 (2 ∷ 1 ∷ 0 ∷ 3 ∷ []) ∷ label_inst (opening_label tree) ∷ slot_variables (global_id plan) (slots_from plan) plan.slots
 
+-- the type void, and that of the function
+abbrev pub function_types : List Inst
+function_types = inst 19 (2 ∷ []) ∷ inst 33 (3 ∷ 2 ∷ []) ∷ []
+
 -- all before the code of the regions
 abbrev pub frame : Program → List Region → Bindings → Version → Plan → List Inst
 frame p list at v plan =
     head p v plan ++ (names 0 list ++ (decorations p at (table_from plan) plan.table ++
-    (inst 19 (2 ∷ []) ∷ inst 33 (3 ∷ 2 ∷ []) ∷ (declarations p (global_id plan) (table_from plan) plan.table ++ opening plan (root_of list)))))
+    (function_types ++ (declarations p (global_id plan) (table_from plan) plan.table ++ opening plan (root_of list)))))
 
 abbrev pub body_code : Program → Plan → Tree → ℕ → List Inst
 body_code p plan tree place =
     if begins_plainly tree then row_code (context_of p plan) place tree
-    else
-    branch_inst (label_at tree) ∷ label_inst (label_at tree) ∷ row_code (context_of p plan) (place + 2) tree
+    else followed place (onwards (label_at tree)) (λ q. row_code (context_of p plan) q tree)
 
 -- the return and the end of the function
 abbrev pub closing : List Inst

@@ -1,5 +1,5 @@
 -- How a block is lowered up to its branch: the phis, the instructions, and what the next blocks' phis take. And which blocks its terminator may go to.
-use Rattle.std.specs.Prelude.{ℕ, ◌+◌, List, [], ◌∷◌, ◌++◌, map, length, Option, Some, None, slice_get, nat_eq, nat_lt, if◌then◌else◌}
+use Rattle.std.specs.Prelude.{ℕ, ◌+◌, List, [], ◌∷◌, ◌++◌, length, Option, Some, None, slice_get, nat_eq, nat_lt, if◌then◌else◌}
 use Rattle.dxil_form.specs.declared.value.Ty.{Ty}
 use Rattle.dxil_form.specs.declared.value.Operand.{Operand}
 use Rattle.dxil_form.specs.declared.value.Operand.TheVariants as operand
@@ -7,9 +7,11 @@ use Rattle.dxil_form.specs.declared.block.Entry.{Entry}
 use Rattle.dxil_form.specs.declared.block.Phi.{Phi}
 use Rattle.dxil_form.specs.declared.block.Block.{Block}
 use Rattle.dxil_form.specs.declared.block.Term.{Term}
-use Rattle.dxil_form.specs.declared.block.Term.TheVariants.{Ret, Unreachable, Go, If, Switch}
-use Rattle.dxil_form.specs.Branches.{has}
+use Rattle.dxil_form.specs.Branches.{has, targets}
+use Rattle.dxil_form.specs.Sound.{cases_in}
 use Rattle.spv_form.specs.declared.module.Inst.{Inst}
+use Rattle.spirv_code.specs.declared.way.Way.{Way}
+use Rattle.spirv_code.specs.declared.way.Way.TheVariants.{Ends, Goes, Chooses, Splits}
 use Rattle.spirv_code.specs.Plans.{Context, inst, result, type_id, kept, coming, variable}
 use Rattle.spirv_code.specs.Reads.{Env, no_register, with_id, read_size, read_code, read_id}
 use Rattle.spirv_code.specs.Lines.{lines_code, lines_env}
@@ -65,46 +67,40 @@ add_new seen (k ∷ ks) = add_new (if has k seen then seen else seen ++ k ∷ []
 abbrev pub different : List ℕ → List ℕ
 different ks = add_new [] ks
 
+-- the different blocks that a terminator may go to
+abbrev pub next_blocks : Term → List ℕ
+next_blocks term = different (targets term)
+
 -- the pairs that one switch instruction takes
 abbrev pub most_pairs : ℕ
 most_pairs = 16383
 
--- how a block is left: it ends, it goes to one block, one selection chooses, or several selections do
-pub data Way : Type 0 where
-  Ends : Way
-  Goes : ℕ → Way
-  Chooses : List ℕ → Way
-  Splits : List ℕ → Way
-
--- of several blocks and so many cases
-abbrev pub choice : List ℕ → ℕ → Way
-choice [] cases = Ends
-choice (k ∷ []) cases = Goes k
-choice (k ∷ l ∷ ks) cases = if nat_lt most_pairs cases then Splits (k ∷ l ∷ ks) else Chooses (k ∷ l ∷ ks)
+-- how a block is left that may go to these different blocks, by so many cases
+abbrev pub way_to : List ℕ → (cases : ℕ) → Way
+way_to [] cases = Ends
+way_to (k ∷ []) cases = Goes k
+way_to (k ∷ l ∷ ks) cases = if nat_lt most_pairs cases then Splits else Chooses
 
 abbrev pub way_of : Term → Way
-way_of Ret = Ends
-way_of Unreachable = Ends
-way_of (Go k) = Goes k
-way_of (If cond there other) = choice (different (there ∷ other ∷ [])) 0
-way_of (Switch value default cases) = choice (different (default ∷ map (λ c. c.1) cases)) (length cases)
+way_of term = way_to (next_blocks term) (cases_in term)
 
-abbrev pub targets_of : Way → List ℕ
-targets_of Ends = []
-targets_of (Goes k) = k ∷ []
-targets_of (Chooses ks) = ks
-targets_of (Splits ks) = ks
+-- ---- the block behind its label, up to its branch
 
--- ---- the block behind its label, and what follows
+-- what stands at a place, and what follows it there
+abbrev pub followed : ℕ → List Inst → (ℕ → List Inst) → List Inst
+followed place front rest = front ++ rest (place + length front)
 
-abbrev pub after_lines : Context → Env → (place from : ℕ) → Block → (Env → ℕ → List Inst) → List Inst
-after_lines c env place from block leave =
-    edges_code c env place from (targets_of (way_of block.term)) ++ leave env (place + length (edges_code c env place from (targets_of (way_of block.term))))
+-- the registers that are known behind the lines
+abbrev pub block_env : Context → ℕ → Block → Env
+block_env c place block =
+    lines_env c (group_env c no_register place block.phis) (place + length (group_code c place block.phis)) block.instrs
 
-abbrev pub after_phis : Context → Env → (place from : ℕ) → Block → (Env → ℕ → List Inst) → List Inst
-after_phis c env place from block leave =
-    lines_code c env place block.instrs ++ after_lines c (lines_env c env place block.instrs) (place + length (lines_code c env place block.instrs)) from block leave
+-- the phis and the lines
+abbrev pub inner_code : Context → ℕ → Block → List Inst
+inner_code c place block =
+    followed place (group_code c place block.phis) (λ p. lines_code c (group_env c no_register place block.phis) p block.instrs)
 
-abbrev pub block_code : Context → (place from : ℕ) → Block → (Env → ℕ → List Inst) → List Inst
-block_code c place from block leave =
-    group_code c place block.phis ++ after_phis c (group_env c no_register place block.phis) (place + length (group_code c place block.phis)) from block leave
+-- the block has this number
+abbrev pub block_code : Context → (place from : ℕ) → Block → List Inst
+block_code c place from block =
+    followed place (inner_code c place block) (λ p. edges_code c (block_env c place block) p from (next_blocks block.term))

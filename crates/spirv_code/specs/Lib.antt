@@ -4,7 +4,10 @@ pub mod Reads
 pub mod Accesses
 pub mod Lines
 pub mod Leaves
+pub mod Exits
 pub mod Trees
 pub mod Rows
 pub mod Frame
+pub mod Needed
+pub mod Further
 pub mod Worked

@@ -75,12 +75,12 @@ abbrev pub one_opcode : OneOp → ℕ
 one_opcode one.Bfrev = 204
 one_opcode one.Countbits = 205
 
--- the compare that chooses the first operand of a maximum or a minimum
+-- the compare that chooses the second operand of a maximum or a minimum
 abbrev pub two_opcode : TwoOp → ℕ
-two_opcode two.IMax = 173
-two_opcode two.IMin = 177
-two_opcode two.UMax = 172
-two_opcode two.UMin = 176
+two_opcode two.IMax = 177
+two_opcode two.IMin = 173
+two_opcode two.UMax = 176
+two_opcode two.UMin = 172
 
 -- ---- lines without an event
 
@@ -126,7 +126,7 @@ abbrev pub extreme_code : Context → Env → ℕ → Reg → TwoOp → Operand 
 extreme_code c env place to op a b =
     two_code c env place a b ++
     (bool_inst c (place + two_size c env a b) (two_opcode op) (read_id c env place a ∷ second_id c env place a b ∷ []) ∷
-    value_code c (place + (two_size c env a b + 1)) to ty.Int 169 (result c (place + two_size c env a b) ∷ read_id c env place a ∷ second_id c env place a b ∷ []))
+    value_code c (place + (two_size c env a b + 1)) to ty.Int 169 (result c (place + two_size c env a b) ∷ second_id c env place a b ∷ read_id c env place a ∷ []))
 
 abbrev pub mad_code : Context → Env → ℕ → Reg → Operand → Operand → Operand → List Inst
 mad_code c env place to x a b =

@@ -1,7 +1,8 @@
 -- The regions of a program as a tree. A list of regions names its parts by places; the tree has them in it, so that what is defined and proved goes by its parts.
-use Rattle.std.specs.Prelude.{ℕ, zero, suc, ◌-◌, Bool, true, false, List, [], ◌∷◌, length, Option, Some, None, slice_get, nat_eq, if◌then◌else◌}
+use Rattle.std.specs.Prelude.{ℕ, zero, suc, ◌-◌, ◌<◌, Bool, true, false, List, [], ◌∷◌, length, Option, Some, None, slice_get, nat_eq, if◌then◌else◌}
 use Rattle.dxil_form.specs.declared.region.Region.{Region}
 use Rattle.dxil_form.specs.declared.region.Region.TheVariants as region
+use Rattle.dxil_form.specs.Wired.{IsPart}
 use Rattle.spirv_code.specs.Plans.{site_label, header_label}
 
 mutual
@@ -49,10 +50,10 @@ place_of (Then place first second target) = place
 place_of (Loop place body head) = place
 place_of (Dispatch place arms) = place
 
--- the label of the arm that runs for block k
-abbrev pub arm_label : ℕ → Arms → Option ℕ
-arm_label k No_arm = None
-arm_label k (Arm target tree arms) = if nat_eq k target then Some (label_at tree) else arm_label k arms
+-- the labels of arms, each under the block for which the arm runs
+abbrev pub arm_label : Arms → ℕ → Option ℕ
+arm_label No_arm k = None
+arm_label (Arm target tree arms) k = if nat_eq k target then Some (label_at tree) else arm_label arms k
 
 -- ---- from the list
 
@@ -89,4 +90,8 @@ tree_at list r = tree_from (suc r) list r
 
 -- the last region is the root
 abbrev pub root_of : List Region → Tree
-root_of list = tree_from (length list) list (length list - 1)
+root_of list = tree_at list (length list - 1)
+
+-- each part of a region stands at an earlier place
+abbrev pub AreEarlier : List Region → Type 0
+AreEarlier list = (r i s : ℕ) → IsPart list r i s → s < r

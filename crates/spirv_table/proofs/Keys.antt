@@ -1,5 +1,5 @@
 -- The equality that the maps use is that of the definitions, and so are the places that they answer.
-use Rattle.std.proofs.Common.{◌≡◌, ℕ, suc, Bool, true, false, List, [], ◌∷◌, ◌++◌, length, Option, Some, None, refl, sym, ap, ◌∙◌, arith, if◌then◌else◌, ◌+◌, ◌≤◌, ◌<◌, not, cond, nat_lt, ltb-false, nat_eq}
+use Rattle.std.proofs.Common.{◌≡◌, ℕ, suc, Bool, true, false, List, [], ◌∷◌, ◌++◌, length, Some, None, refl, sym, ap, ◌∙◌, arith, if◌then◌else◌, ◌+◌, ◌≤◌, not, cond, nat_lt, ltb-false}
 use Rattle.std.specs.List.{list_any, position, position_or_len}
 use Rattle.std.specs.Prelude.{◌||◌, ◌&&◌, option_map}
 use Rattle.spirv_code.specs.contracts.key.SortPartialEq.TheImpl as sort_impl
@@ -17,7 +17,7 @@ use Rattle.spirv_code.specs.declared.key.Global.{Global}
 use Rattle.spirv_code.specs.declared.key.Global.TheVariants.{Plain, Pointer, Number, Truth, Input, Buffer, Shared}
 use Rattle.spirv_code.specs.declared.key.Slot.{Slot}
 use Rattle.spirv_code.specs.declared.key.Slot.TheVariants.{Next, Kept, Want, Pick}
-use Rattle.spirv_code.specs.Keys.{same_truth, same_sort, same_storage, same_built_in, same_global, same_slot, add_key, has_key, index_of, place_from}
+use Rattle.spirv_code.specs.Keys.{same_sort, same_storage, same_built_in, same_global, same_slot, add_key, has_key, index_of, place_from}
 
 same_sorts : (a b : Sort) → sort_impl.eq-value.it a b ≡ same_sort a b
 same_sorts sort.Int sort.Int = refl

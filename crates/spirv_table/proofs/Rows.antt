@@ -1,5 +1,5 @@
 -- What the map of registers answers.
-use Rattle.std.proofs.Common.{◌≡◌, ℕ, Bool, List, [], ◌∷◌, Option, Some, None, refl, ap, ◌∙◌, cond, if◌then◌else◌}
+use Rattle.std.proofs.Common.{◌≡◌, ℕ, List, [], ◌∷◌, Some, refl, ap, if◌then◌else◌}
 use Rattle.std.specs.Map.{lookup}
 use Rattle.dxil_form.specs.declared.value.Reg.{Reg}
 use Rattle.spirv_code.specs.Reads.{no_register}

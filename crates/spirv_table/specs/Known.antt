@@ -1,5 +1,5 @@
 -- The registers that are known, as a function.
-use Rattle.std.specs.Prelude.{ℕ, Bool, nat_eq, ◌&&◌, List, [], ◌∷◌, Option, Some, None, if◌then◌else◌}
+use Rattle.std.specs.Prelude.{ℕ, Bool, nat_eq, ◌&&◌, List, [], ◌∷◌, Some, None, if◌then◌else◌}
 use Rattle.dxil_form.specs.declared.value.Reg.{Reg}
 use Rattle.spirv_code.specs.Reads.{Env}
 use Rattle.spirv_table.specs.declared.known.Named.{Named}

@@ -1,5 +1,5 @@
 -- What the tables stand for.
-use Rattle.std.specs.Prelude.{ℕ, ◌≤◌, length}
+use Rattle.std.specs.Prelude.{◌≤◌, length}
 use Rattle.spirv_code.specs.Plans.{Plan}
 use Rattle.spirv_table.specs.declared.tables.Tables.{Tables}
 

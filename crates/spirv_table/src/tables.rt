@@ -1,6 +1,6 @@
 ghost use Rattle.std.specs.Prelude.{◌≡◌, ◌≤◌, length};
 ghost use Rattle.spirv_code.specs.Keys.{index_of};
-ghost use Rattle.spirv_code.specs.Plans.{global_id, results_from, slot_id};
+ghost use Rattle.spirv_code.specs.Plans.{global_id, results_from, slot_id, slots_from, table_from};
 ghost use Rattle.spirv_table.specs.Tables.{plan_of, AreFew};
 
 use indexmap::IndexSet;
@@ -32,6 +32,22 @@ impl Tables {
             Some(at) => Some(4 + 8 * self.regions + at as u32),
             None => None,
         }
+    }
+
+    /// The id of the first variable of the function.
+    pub fn slots_from(&self) -> u32
+        requires { AreFew self.now }
+        ensures { result ≡ slots_from (plan_of self.now) }
+    {
+        4 + 8 * self.regions
+    }
+
+    /// The id of the first declaration.
+    pub fn table_from(&self) -> u32
+        requires { AreFew self.now }
+        ensures { result ≡ table_from (plan_of self.now) }
+    {
+        self.slots_from() + self.slots.len() as u32
     }
 
     /// The id of a result at place 0.

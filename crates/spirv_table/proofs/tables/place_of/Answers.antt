@@ -1,5 +1,5 @@
-use Rattle.std.proofs.Common.{◌≡◌, ◌≤◌, length, ◌∙◌, sym, arith}
-use Rattle.spirv_table.proofs.Keys.{place_some, place_none, index_bound}
+use Rattle.std.proofs.Common.{◌∙◌, sym}
+use Rattle.spirv_table.proofs.Keys.{place_some, place_none}
 use Rattle.spirv_table.proofs.tables.place_of.Goals as goal
 
 pub returns-in-Some-clause-place : goal.returns-in-Some-clause-place

@@ -1,4 +1,4 @@
-use Rattle.std.proofs.Common.{◌≡◌, ◌∙◌, sym, ap}
+use Rattle.std.proofs.Common.{◌∙◌, ap}
 use Rattle.std.specs.Map.{lookup}
 use Rattle.spirv_table.specs.contracts.known.NamedPartialEq.TheImpl as impl
 use Rattle.spirv_table.specs.Known.{env_of}

@@ -1,5 +1,5 @@
-use Rattle.std.proofs.Common.{◌≡◌, ◌∙◌, sym, ap}
-use Rattle.std.specs.Prelude.{ℕ, ◌+◌, option_map}
+use Rattle.std.proofs.Common.{◌∙◌, sym, ap}
+use Rattle.std.specs.Prelude.{◌+◌, option_map}
 use Rattle.spirv_code.specs.Plans.{slots_from}
 use Rattle.spirv_table.specs.Tables.{plan_of}
 use Rattle.spirv_table.proofs.Keys.{slot_place}

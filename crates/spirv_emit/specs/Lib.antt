@@ -1,0 +1,2 @@
+pub mod InstCode
+pub mod Scenes
