@@ -1,0 +1,12 @@
+pub mod Addressing
+pub mod Chains
+pub mod Elements
+pub mod Events
+pub mod Jumping
+pub mod Locating
+pub mod Missing
+pub mod Places
+pub mod Ranges
+pub mod Running
+pub mod Stepping
+pub mod Whole

@@ -1,0 +1,9 @@
+pub mod Combined
+pub mod Keeping
+pub mod Lines
+pub mod Pieces
+pub mod Reading
+pub mod Results
+pub mod Tests
+pub mod Values
+pub mod Whole

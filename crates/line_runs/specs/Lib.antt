@@ -1,0 +1,4 @@
+pub mod Declared
+pub mod Done
+pub mod Held
+pub mod Ready
