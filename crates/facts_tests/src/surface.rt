@@ -51,9 +51,19 @@ const SHADER: [Piece; 50] = [
     Record(3, &[14]),
     Record(3, &[0, 15, 0, 0]),
     Record(3, &[5, 6, 0, 16, 11]),
-    Record(4, &[100, 120, 46, 115, 104, 97, 100, 101, 114, 77, 111, 100, 101, 108]),
+    Record(
+        4,
+        &[
+            100, 120, 46, 115, 104, 97, 100, 101, 114, 77, 111, 100, 101, 108,
+        ],
+    ),
     Record(10, &[3]),
-    Record(4, &[100, 120, 46, 101, 110, 116, 114, 121, 80, 111, 105, 110, 116, 115]),
+    Record(
+        4,
+        &[
+            100, 120, 46, 101, 110, 116, 114, 121, 80, 111, 105, 110, 116, 115,
+        ],
+    ),
     Record(10, &[16]),
     End,
     Enter(12),
@@ -65,8 +75,18 @@ const SHADER: [Piece; 50] = [
 
 fn are_its_types(types: &Types) -> bool {
     types.list.len() == 5
-        && matches!(types.list.get(1), Some(LlvmType::Function { vararg: false, ret: 0, .. }))
-        && matches!(types.list.get(3), Some(LlvmType::Pointer { to: 1, space: 0 }))
+        && matches!(
+            types.list.get(1),
+            Some(LlvmType::Function {
+                vararg: false,
+                ret: 0,
+                ..
+            })
+        )
+        && matches!(
+            types.list.get(3),
+            Some(LlvmType::Pointer { to: 1, space: 0 })
+        )
         && matches!(types.list.get(4), Some(LlvmType::Integer(1)))
 }
 
@@ -84,10 +104,21 @@ fn is_its_body(body: &Body) -> bool {
 
 fn are_its_records(records: &Records) -> bool {
     records.globals.len() == 8
-        && matches!(records.globals.get(0), Some(Value::Function { ty: 1, body: Some(0), .. }))
+        && matches!(
+            records.globals.get(0),
+            Some(Value::Function {
+                ty: 1,
+                body: Some(0),
+                ..
+            })
+        )
         && matches!(
             records.globals.get(6),
-            Some(Value::Constant { ty: Some(2), kind: ConstKind::Integer(11), .. }),
+            Some(Value::Constant {
+                ty: Some(2),
+                kind: ConstKind::Integer(11),
+                ..
+            }),
         )
         && records.bodies.len() == 1
         && records.bodies.as_slice().iter().all(is_its_body)

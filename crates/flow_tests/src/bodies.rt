@@ -98,11 +98,7 @@ fn push_step(words: &mut Vec<u32>, step: Step) -> Result<(), AllocError> {
 }
 
 /// The rule that the file of these words breaks, and its word; None where it breaks none.
-fn answer(
-    rt: &impl Abort,
-    alloc: Global,
-    words: &[u32],
-) -> Result<Option<(WordRule, u32)>, Fail> {
+fn answer(rt: &impl Abort, alloc: Global, words: &[u32]) -> Result<Option<(WordRule, u32)>, Fail> {
     let mut list = List::new(alloc);
     for word in words {
         list.push(*word)?;
