@@ -7,7 +7,7 @@ use Rattle.std.specs.List.{slice_get}
 use Rattle.dxil_form.specs.Graphs.{Graph, IsFormed, AllReached, SolePred, absorbed}
 use Rattle.dxil_form.specs.Branches.{has}
 use Rattle.graph_laws.proofs.Rewrites.{edge_absorbed, absorbed_edge, absorb_keeps}
-use Rattle.graph_laws.proofs.Public.{absorb_reached}
+use Rattle.graph_laws.proofs.Public.{absorb_reached, absorb_heads}
 use Rattle.region_builder.specs.Absorbing.{AreChildren, AreAbsorbed}
 
 pub has_place : (xs : List ℕ) (k : ℕ) → has k xs ≡ true → (n : ℕ) × (slice_get xs n ≡ Some k)
@@ -60,6 +60,7 @@ none_absorbed g a formed reached = record {
   formed = formed;
   all_reached = reached;
   crossed = (λ k. k, λ k. k);
+  heads = λ h b f. (λ o. o, λ o. o);
   live = λ i. (λ t. (t, refl), λ h. h.0);
   edge = λ x y. (λ t. (refl, refl, inl t), λ h. elim h.2 [ inl e ↦ e | inr (_, (j, t, _)) ↦ absurd (false≢true t) ]);
 }
@@ -153,6 +154,9 @@ module _ (g : Graph) (a : ℕ) (nodes : List ℕ) (c : AreChildren g a nodes) wh
           formed = formed;
           all_reached = reached;
           crossed = (let (x, y) = absorb_keeps now a child child_nonzero child_pred in (λ k. are.crossed.0 (x k), λ k. y (are.crossed.1 k)));
+          heads = λ h b f. (let (fb, nb) = not_push done child b f in
+              let (x, y) = absorb_heads now are.formed are.all_reached a child child_nonzero child_pred h b nb in
+              let (u, v) = are.heads h b fb in (λ o. u (x o), λ o. y (v o)));
           live = λ i. (
             λ t. (let (x, n) = and_parts (now.live i) (not (eqb i child)) t in
                 let (y, f) = (are.live i).0 x in (y, push_not done child i f (eqb-false i child (not-true (eqb i child) n)))),

@@ -86,7 +86,7 @@ module _ (p : Program) (list : List Region) (blocks places : List ℕ) (g : Grap
     edges = λ i k n f e. (are.edge i k).1 (f, false_from_ne_true (has k nodes) (λ t. n ((child_pred k t).sole i e)), inl e);
   }
 
-  branch_parts : Joining places region a gone
+  pub branch_parts : Joining places region a gone
   branch_parts = record {
     own = (0, refl);
     all = λ i t. (let (n, h) = has_place nodes i t in (suc n, part_at blocks places nodes n i h));
@@ -115,7 +115,7 @@ module _ (p : Program) (list : List Region) (blocks places : List ℕ) (g : Grap
           ap suc (c.once m n j (subst P e x) y)
 
   -- the leaf's block is that of a
-  block_is : get_or blocks a 0 ≡ block
+  pub block_is : get_or blocks a 0 ≡ block
   block_is = entered_once list b.regions.later b.regions.no_dispatch (b.enters a a_live) (by_block leaf)
 
   at_leaf : (x : Region) → slice_get list (get_or places a 0) ≡ Some x → Leaf block ≡ x
@@ -133,8 +133,8 @@ module _ (p : Program) (list : List Region) (blocks places : List ℕ) (g : Grap
   pub arm_of : (k s : ℕ) → Contains arms (k, s) → (n : ℕ) × (j : ℕ) × (slice_get nodes n ≡ Some j) × (get_or blocks j 0 ≡ k) × (get_or places j 0 ≡ s)
   arm_of k s i = let (n, h) = get_has arms (k, s) i in let (j, m, q, o) = at_arm blocks places nodes n k s h in (n, j, m, q, o)
 
-  fits : Fitting p list region
-  fits = record {
+  pub branch_fits : Fitting p list region
+  branch_fits = record {
     no_leaf = λ x q. cc;
     no_dispatch = λ x q. cc;
     second = λ first second target q. absurd (cc);
@@ -242,7 +242,7 @@ module _ (p : Program) (list : List Region) (blocks places : List ℕ) (g : Grap
       omega arith
 
   pub branch_built : Built p branched blocks (set places a (length list)) now
-  branch_built = built_on p list blocks places g b region a gone now rewritten branch_parts fits branch_enters branch_wants branch_wanted branch_few
+  branch_built = built_on p list blocks places g b region a gone now rewritten branch_parts branch_fits branch_enters branch_wants branch_wanted branch_few
 
 -- children and their parent have places
 module _ (p : Program) (list : List Region) (blocks places : List ℕ) (g : Graph) (b : Built p list blocks places g) where

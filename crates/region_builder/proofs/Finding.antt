@@ -1,26 +1,31 @@
 -- Several steps are one way, and the lists of children.
 use Rattle.std.proofs.Common.{◌≡◌, ◌≢◌, ◌⊎◌, inl, inr, ℕ, suc, ◌+◌, ◌<◌, ◌≤◌, Bool, true, false, not, eqb, ne_eqb, ◌||◌, List, [], ◌∷◌, ◌++◌, length, Some, refl, sym, ap, subst, ◌∙◌, arith}
-use Rattle.std.proofs.lemmas.Bool.{cases_eq, cases_order, false≢true, and_from, not_from_false}
+use Rattle.std.proofs.lemmas.Bool.{both_ways, cases_eq, cases_order, false≢true, and_from, not_from_false}
 use Rattle.std.proofs.lemmas.Option.{none-some, slice_get_within}
 use Rattle.std.specs.List.{slice_get}
 use Rattle.dxil_form.specs.Graphs.{Graph, SolePred, absorbed}
 use Rattle.flow_graph.specs.Shapes.{plain}
 use Rattle.region_laws.proofs.Places.{cases_last}
-use Rattle.region_builder.specs.Built.{IsBuilt, Keeps, SameRings, Went, IsSettled, size}
+use Rattle.region_builder.specs.Built.{BuiltBy, IsBuilt, Keeps, SameRings, Went, AllSettled, size}
+use Rattle.head_table.specs.declared.table.HeadTable.{HeadTable}
+use Rattle.head_table.specs.Table.{over}
+use Rattle.region_builder.specs.Settled.{IsAllowed, MayRepeat, IsSettledBy, AllSettledBy}
 use Rattle.region_builder.specs.Absorbing.{AreChildren}
 use Rattle.region_builder.specs.Children.{AreChildrenBelow}
 use Rattle.region_builder.specs.declared.builder.Builder.{Builder}
 use Rattle.region_builder.proofs.Sizes.{work}
 
 pub kept_built : (old new : Builder) → Keeps old new → IsBuilt old → IsBuilt new
-kept_built old new k (p, b) = (p, k p b)
+kept_built old new k (p, f, b) = (p, f, k p f b)
 
 pub went_nowhere : (b : Builder) → Went b b false
 went_nowhere b = record {
-  keeps = λ p k. k;
+  keeps = λ p f k. k;
   rings = record { count = refl; crossed = (λ k. k, λ k. k) };
   smaller = λ t. absurd (false≢true t);
   same = λ f. refl;
+  told = λ f. refl;
+  fewer = λ h b z. z;
 }
 
 pub went_size : (old new : Builder) → plain new.graph ≡ plain old.graph → size new.graph ≡ size old.graph
@@ -28,13 +33,15 @@ went_size old new q = ap work q
 
 pub went_on : (a b c : Builder) (d e : Bool) → Went a b d → Went b c e → Went a c (d || e)
 went_on a b c d e x y = record {
-  keeps = λ p k. y.keeps p (x.keeps p k);
+  keeps = λ p f k. y.keeps p f (x.keeps p f k);
   rings = record {
     count = y.rings.count ∙ x.rings.count;
     crossed = (λ k. x.rings.crossed.0 (y.rings.crossed.0 k), λ k. y.rings.crossed.1 (x.rings.crossed.1 k));
   };
   smaller = λ t. less d e x y t;
   same = λ f. alike d e x y f;
+  told = λ f. unmoved d e x y f;
+  fewer = λ h k z. y.fewer h k (x.fewer h k z);
 }
   where
     less : (d e : Bool) → Went a b d → Went b c e → (d || e) ≡ true → size c.graph < size a.graph
@@ -48,6 +55,11 @@ went_on a b c d e x y = record {
     alike false true x y f = absurd (false≢true (sym f))
     alike true e x y f = absurd (false≢true (sym f))
 
+    unmoved : (d e : Bool) → Went a b d → Went b c e → (d || e) ≡ false → c.heads ≡ a.heads
+    unmoved false false x y f = y.told refl ∙ x.told refl
+    unmoved false true x y f = absurd (false≢true (sym f))
+    unmoved true e x y f = absurd (false≢true (sym f))
+
 -- something was done before
 pub went_true : (a b c : Builder) (d e : Bool) → Went a b d → Went b c e → (d ≡ true) ⊎ (e ≡ true) → Went a c true
 went_true a b c true e x y o = went_on a b c true e x y
@@ -56,20 +68,32 @@ went_true a b c false false x y o = elim o [ inl t ↦ absurd (false≢true t) |
 
 -- ---- the lists of children
 
-pub no_children : (g : Graph) (a : ℕ) → AreChildrenBelow g a 1 []
-no_children g a = record {
+pub no_children : (b : Builder) (a : ℕ) → AreChildrenBelow b a 1 []
+no_children b a = record {
   sole = λ m j h. absurd (none-some j h);
+  own = λ m j h. absurd (none-some j h);
+  allowed = λ m j h. absurd (none-some j h);
   nonzero = λ m j h. absurd (none-some j h);
   below = λ m j h. absurd (none-some j h);
   rising = λ l m i j o h k. absurd (none-some i h);
 }
 
-pub children_on : (g : Graph) (a n : ℕ) (nodes : List ℕ) → AreChildrenBelow g a n nodes → AreChildrenBelow g a (n + 1) nodes
-children_on g a n nodes c = record { sole = c.sole; nonzero = c.nonzero; below = λ m j h. (let l = c.below m j h in omega arith); rising = c.rising }
+pub children_on : (b : Builder) (a n : ℕ) (nodes : List ℕ) → AreChildrenBelow b a n nodes → AreChildrenBelow b a (n + 1) nodes
+children_on b a n nodes c = record {
+  sole = c.sole;
+  own = c.own;
+  allowed = c.allowed;
+  nonzero = c.nonzero;
+  below = λ m j h. (let l = c.below m j h in omega arith);
+  rising = c.rising;
+}
 
-pub child_on : (g : Graph) (a n : ℕ) (nodes : List ℕ) → AreChildrenBelow g a n nodes → 1 ≤ n → SolePred g a n → AreChildrenBelow g a (n + 1) (nodes ++ n ∷ [])
-child_on g a n nodes c l p = record {
-  sole = λ m j h. elim (cases_last nodes n m j h) [ inl k ↦ c.sole m j k | inr (_, q) ↦ (let P : ℕ → Type 0 = λ y. SolePred g a y in subst P q p) ];
+pub child_on : (b : Builder) (a n : ℕ) (nodes : List ℕ) → AreChildrenBelow b a n nodes → 1 ≤ n → SolePred (plain b.graph) a n → slice_get b.firsts.items n ≡ Some (Some a)
+    → IsAllowed (over b.heads) a n → AreChildrenBelow b a (n + 1) (nodes ++ n ∷ [])
+child_on b a n nodes c l p f w = record {
+  sole = λ m j h. elim (cases_last nodes n m j h) [ inl k ↦ c.sole m j k | inr (_, q) ↦ (let P : ℕ → Type 0 = λ y. SolePred (plain b.graph) a y in subst P q p) ];
+  own = λ m j h. elim (cases_last nodes n m j h) [ inl k ↦ c.own m j k | inr (_, q) ↦ (let P : ℕ → Type 0 = λ y. slice_get b.firsts.items y ≡ Some (Some a) in subst P q f) ];
+  allowed = λ m j h. elim (cases_last nodes n m j h) [ inl k ↦ c.allowed m j k | inr (_, q) ↦ (let P : ℕ → Type 0 = λ y. IsAllowed (over b.heads) a y in subst P q w) ];
   nonzero = λ m j h. elim (cases_last nodes n m j h) [ inl k ↦ c.nonzero m j k | inr (_, q) ↦ (λ z. omega arith) ];
   below = λ m j h. elim (cases_last nodes n m j h) [ inl k ↦ (let b = c.below m j k in omega arith) | inr (_, q) ↦ omega arith ];
   rising = rising;
@@ -87,8 +111,8 @@ child_on g a n nodes c l p = record {
       ]
     ]
 
-pub as_children : (g : Graph) (a n : ℕ) (nodes : List ℕ) → AreChildrenBelow g a n nodes → 1 ≤ length nodes → AreChildren g a nodes
-as_children g a n nodes c l = record { some = l; nonzero = c.nonzero; sole = c.sole; once = once }
+pub as_children : (b : Builder) (a n : ℕ) (nodes : List ℕ) → AreChildrenBelow b a n nodes → 1 ≤ length nodes → AreChildren (plain b.graph) a nodes
+as_children b a n nodes c l = record { some = l; nonzero = c.nonzero; sole = c.sole; once = once }
   where
     once : (x y j : ℕ) → slice_get nodes x ≡ Some j → slice_get nodes y ≡ Some j → x ≡ y
     once x y j h k = elim (cases_order x y) [
@@ -97,28 +121,30 @@ as_children g a n nodes c l = record { some = l; nonzero = c.nonzero; sole = c.s
       | inr (inr o) ↦ (let r = c.rising y x j j o k h in absurd (omega arith))
     ]
 
-pub went_by : (old new : Builder) → Keeps old new → SameRings old.graph new.graph → size new.graph < size old.graph → Went old new true
-went_by old new k r s = record { keeps = k; rings = r; smaller = λ t. s; same = λ f. absurd (false≢true (sym f)) }
+pub went_by : (old new : Builder) → Keeps old new → SameRings old.graph new.graph → size new.graph < size old.graph → new.heads ≡ old.heads → Went old new true
+went_by old new k r s e = record {
+  keeps = k;
+  rings = r;
+  smaller = λ t. s;
+  same = λ f. absurd (false≢true (sym f));
+  told = λ f. absurd (false≢true (sym f));
+  fewer = λ h b z. ap (λ (t : HeadTable). over t h b) e ∙ z;
+}
 
 pub absorber_lives : (g : Graph) (a j : ℕ) → SolePred g a j → g.live a ≡ true → (absorbed g a j).live a ≡ true
 absorber_lives g a j p l = and_from (g.live a) (not (eqb a j)) l (not_from_false (eqb a j) (ne_eqb a j p.other))
 
 pub same_blocks : (old new : Builder) → IsBuilt old → Keeps old new → SameRings old.graph new.graph → length new.blocks.items ≡ length old.blocks.items
-same_blocks old new (p, b) k r = let n = k p b in let x = b.built.count in let y = n.built.count in let z = r.count in omega arith
+same_blocks old new (p, f, b) k r = let n = k p f b in let x = b.built.count in let y = n.built.count in let z = r.count in omega arith
 
-pub went_fold : (old new : Builder) (done : Bool) → Keeps old new → SameRings old.graph new.graph → (done ≡ true → size new.graph < size old.graph)
-    → (done ≡ false → plain new.graph ≡ plain old.graph) → Went old new done
-went_fold old new done k r s q = record { keeps = k; rings = r; smaller = s; same = q }
-
--- a fold that was none, and no child left
-pub settled_by : (g : Graph) (a : ℕ) → (g.edge a a ≡ true → ⊥) → (h : Graph) → h ≡ g → ((j : ℕ) → j ≢ 0 → SolePred h a j → ⊥) → IsSettled g a
-settled_by g a stands h q none = record {
+-- a loop that may not be made, and no child left
+pub settled_by : (t u : HeadTable) (g h : Graph) (a : ℕ) → (MayRepeat (over t) g a → ⊥) → u ≡ t → h ≡ g → ((j : ℕ) → j ≢ 0 → SolePred h a j → IsAllowed (over u) a j → ⊥) → IsSettledBy (over t) g a
+settled_by t u g h a stands e q none = record {
   no_fold = stands;
-  no_absorb = (let P : Graph → Type 0 = λ z. (j : ℕ) → j ≢ 0 → SolePred z a j → ⊥ in subst P q none);
+  no_absorb = (
+      let P : Graph → Type 0 = λ z. (j : ℕ) → j ≢ 0 → SolePred z a j → IsAllowed (over u) a j → ⊥ in
+      let Q : HeadTable → Type 0 = λ z. (j : ℕ) → j ≢ 0 → SolePred g a j → IsAllowed (over z) a j → ⊥ in subst Q e (subst P q none));
 }
-
-pub settled_same : (g h : Graph) (a : ℕ) → h ≡ g → IsSettled h a → IsSettled g a
-settled_same g h a q s = let P : Graph → Type 0 = λ z. IsSettled z a in subst P q s
 
 pub or_false : (d e : Bool) → (d || e) ≡ false → (d ≡ false) × (e ≡ false)
 or_false false false q = (refl, refl)
@@ -126,15 +152,26 @@ or_false false true q = absurd (false≢true (sym q))
 or_false true e q = absurd (false≢true (sym q))
 
 -- all nodes from n on are settled, where nothing was done
-abbrev pub SettledFrom : Graph → ℕ → ℕ → Type 0
-SettledFrom g count n = (a : ℕ) → a < count → n ≤ a → g.live a ≡ true → IsSettled g a
+abbrev pub SettledFrom : HeadTable → Graph → ℕ → ℕ → Type 0
+SettledFrom t g count n = (a : ℕ) → a < count → n ≤ a → g.live a ≡ true → IsSettledBy (over t) g a
 
-pub settled_step : (old mid : Builder) (d : Bool) (count n : ℕ) → Went old mid d → d ≡ false → SettledFrom (plain old.graph) count (suc n)
-    → ((plain mid.graph).live n ≡ true → IsSettled (plain mid.graph) n) → SettledFrom (plain old.graph) count n
+pub settled_step : (old mid : Builder) (d : Bool) (count n : ℕ) → Went old mid d → d ≡ false → SettledFrom old.heads (plain old.graph) count (suc n)
+    → ((plain mid.graph).live n ≡ true → IsSettledBy (over mid.heads) (plain mid.graph) n) → SettledFrom old.heads (plain old.graph) count n
 settled_step old mid d count n w f before here a l m live = elim (cases_eq n a) [
   | inl q ↦ (
-      let P : Graph → Type 0 = λ g. g.live n ≡ true → IsSettled g n in
-      let Q : ℕ → Type 0 = λ z. (plain old.graph).live z ≡ true → IsSettled (plain old.graph) z in
-      subst Q q (subst P (w.same f) here) live)
+      let P : Graph → Type 0 = λ g. g.live n ≡ true → IsSettledBy (over mid.heads) g n in
+      let R : HeadTable → Type 0 = λ t. (plain old.graph).live n ≡ true → IsSettledBy (over t) (plain old.graph) n in
+      let Q : ℕ → Type 0 = λ z. (plain old.graph).live z ≡ true → IsSettledBy (over old.heads) (plain old.graph) z in
+      subst Q q (subst R (w.told f) (subst P (w.same f) here)) live)
   | inr o ↦ before a l (omega arith) live
 ]
+
+-- without heads nothing may be done at all
+pub settled_plain : (t : HeadTable) (g : Graph) → ((h b : ℕ) → over t h b ≡ false) → AllSettledBy (over t) g → AllSettled g
+settled_plain t g none s a l = record {
+  no_fold = λ e. (s a l).no_fold (record { edge = e; alone = λ b m o. absurd (both_ways _ (none a b) o) });
+  no_absorb = λ j n p. (s a l).no_absorb j n p (λ h o. absurd (both_ways _ (none h a) o));
+}
+
+pub settled_more : (t : HeadTable) (g : Graph) → AllSettled g → AllSettledBy (over t) g
+settled_more t g s a l = record { no_fold = λ m. (s a l).no_fold m.edge; no_absorb = λ j n p w. (s a l).no_absorb j n p }

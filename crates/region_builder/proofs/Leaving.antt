@@ -1,11 +1,12 @@
 -- The roots that are left.
-use Rattle.std.proofs.Common.{◌≡◌, ◌≢◌, ◌⊎◌, ◌↔◌, inl, inr, ℕ, ◌+◌, ◌<◌, Bool, true, false, cond, List, [], ◌∷◌, ◌++◌, length, get_or, Some, refl, sym, ap, subst, ◌∙◌, arith}
+use Rattle.std.proofs.Common.{◌≡◌, ◌≢◌, ◌⊎◌, ◌↔◌, inl, inr, ℕ, ◌+◌, ◌<◌, Bool, true, false, cond, List, [], ◌∷◌, ◌++◌, length, get_or, Option, Some, refl, sym, ap, subst, ◌∙◌, arith}
 use Rattle.std.proofs.lemmas.Bool.{cases_eq, cases_lt, cases_order, both_ways, false_from_ne_true, false≢true}
 use Rattle.std.proofs.lemmas.Option.{none-some, some_pair_parts, slice_get_within, slice_get-get_or, get_or_from_slice_get}
 use Rattle.std.specs.List.{slice_get}
 use Rattle.dxil_form.specs.declared.program.Program.{Program}
 use Rattle.dxil_form.specs.declared.region.Region.{Region}
-use Rattle.dxil_form.specs.Graphs.{Graph, Crossed, In, Path}
+use Rattle.std.specs.Option.{IfSome}
+use Rattle.dxil_form.specs.Graphs.{Graph, Crossed, In, Path, SolePred}
 use Rattle.dxil_form.specs.Sound.{Sound}
 use Rattle.dxil_form.specs.Walks.{EnteredBy}
 use Rattle.dxil_form.specs.Wired.{IsPart, MayWant}
@@ -16,7 +17,7 @@ use Rattle.region_leaves.specs.Leaves.{AreReachable}
 use Rattle.region_leaves.proofs.Rooted.{few_blocks, index_of}
 use Rattle.region_builder.specs.Started.{HasNodes, WantsAlongEdges}
 use Rattle.region_builder.specs.Built.{Built, AllSettled}
-use Rattle.region_builder.specs.Children.{AreRoots}
+use Rattle.region_builder.specs.Children.{AreRoots, AreSolePreds}
 use Rattle.region_builder.proofs.Counting.{count_some}
 
 pub no_roots : (g : Graph) (blocks places : List ℕ) → AreRoots g 0 blocks places []
@@ -77,6 +78,19 @@ pub root_on : (g : Graph) (n : ℕ) (blocks places : List ℕ) (roots : List (�
 root_on g n blocks places roots are true tells below = live_on g n blocks places roots are (tells.0 refl) below
 root_on g n blocks places roots are false tells below =
     dead_on g n blocks places roots are (false_from_ne_true (g.live n) (λ t. false≢true (tells.1 t)))
+
+-- ---- the sole predecessors of nodes
+
+pub no_preds : (g : Graph) → AreSolePreds g []
+no_preds g i j h = absurd (none-some (Some i) h)
+
+pub preds_on : (g : Graph) (ps : List (Option ℕ)) (n : ℕ) (r : Option ℕ) → AreSolePreds g ps → length ps ≡ n → IfSome r (λ a. SolePred g a n) → AreSolePreds g (ps ++ r ∷ [])
+preds_on g ps n r are e told i j h = elim (cases_last ps r j (Some i) h) [
+  | inl k ↦ are i j k
+  | inr (q, o) ↦ (
+      let P : Option ℕ → Type 0 = λ z. IfSome z (λ a. SolePred g a n) in
+      let Q : ℕ → Type 0 = λ z. SolePred g i z in subst Q (sym (q ∙ e)) (subst P o told))
+]
 
 -- a block stands at one place
 pub one_block : {p : Program} {blocks : List ℕ} → AreReachable p blocks → (i j : ℕ) → i < length blocks → j < length blocks → get_or blocks i 0 ≡ get_or blocks j 0 → i ≡ j

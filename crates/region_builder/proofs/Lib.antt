@@ -12,3 +12,8 @@ pub mod Walking
 pub mod ArmsWalking
 pub mod EndWalking
 pub mod Opening
+pub mod Heading
+pub mod LoopHeading
+pub mod Tracing
+pub mod FirstHeads
+pub mod Finishing

@@ -69,7 +69,7 @@ module _ (p : Program) (sound : Sound p) (blocks : List ℕ) (are : AreReachable
         | inr (inr above) ↦ (let r = are.rising j i above l in absurd (omega arith))
       ]
 
-  graph_formed : IsFormed g
+  pub graph_formed : IsFormed g
   graph_formed = record {
     entry = (is.live 0).1 (slice_get_within blocks 0 0 first_block);
     within = λ i l. (let m = (is.live i).0 l in let c = is.count in omega arith);
@@ -85,7 +85,7 @@ module _ (p : Program) (sound : Sound p) (blocks : List ℕ) (are : AreReachable
       let (nodes, v) = node_path c before w j k in
       (j ∷ nodes, ((is.edges j i).1 (c, b, k, h, e), v))
 
-  graph_reached : AllReached g
+  pub graph_reached : AllReached g
   graph_reached i l =
       let h = slice_get-get_or blocks i 0 ((is.live i).0 l) in
       let (before, w) = block_reached p sound blocks are i (get_or blocks i 0) h in node_path (get_or blocks i 0) before w i h

@@ -67,7 +67,7 @@ module _ (p : Program) (list : List Region) (blocks places : List ℕ) (g : Grap
           (λ q. (let P : ℕ → Type 0 = λ y. g.edge i y ≡ true in n (pred.sole i (subst P q e)))) (inl e);
     }
 
-    join_parts : Joining places second_region a gone
+    pub join_parts : Joining places second_region a gone
     join_parts = record {
       own = (0, refl);
       all = λ i t. (1, ap (λ (y : ℕ). Some (get_or places y 0)) (sym (eqb-true i j t)));
@@ -92,7 +92,7 @@ module _ (p : Program) (list : List Region) (blocks places : List ℕ) (g : Grap
         once (suc zero) (suc (suc n)) s h k = absurd (cc)
         once (suc (suc m)) n s h k = absurd (cc)
 
-    join_fits : Fitting p list second_region
+    pub join_fits : Fitting p list second_region
     join_fits = record {
       no_leaf = λ c q. cc;
       no_dispatch = λ arms q. cc;
@@ -202,7 +202,7 @@ module _ (p : Program) (list : List Region) (blocks places : List ℕ) (g : Grap
       edges = λ i k n f e. folded_edge i k e (λ q. n q.0);
     }
 
-    loop_parts : Joining places loop_region a nobody
+    pub loop_parts : Joining places loop_region a nobody
     loop_parts = record {
       own = (0, refl);
       all = λ i t. absurd (false≢true t);
@@ -238,7 +238,7 @@ module _ (p : Program) (list : List Region) (blocks places : List ℕ) (g : Grap
         go (arm_wants m c x) = cc (at_root _ m)
         go (choice_wants m c x n) = cc (at_root _ m)
 
-    loop_fits : Fitting p list loop_region
+    pub loop_fits : Fitting p list loop_region
     loop_fits = record {
       no_leaf = λ c q. cc;
       no_dispatch = λ arms q. cc;

@@ -1,6 +1,6 @@
 -- Several nodes that one node absorbs.
-use Rattle.std.specs.Prelude.{◌≡◌, ◌≢◌, ◌⊎◌, ◌↔◌, ℕ, ◌≤◌, true, false, List, length, map, Some, slice_get, slice_index}
-use Rattle.dxil_form.specs.Graphs.{Graph, IsFormed, AllReached, SolePred, Crossed}
+use Rattle.std.specs.Prelude.{◌≡◌, ◌≢◌, ◌⊎◌, ◌↔◌, ℕ, ◌<◌, ◌≤◌, true, false, List, length, map, Some, slice_get, slice_index}
+use Rattle.dxil_form.specs.Graphs.{Graph, IsFormed, AllReached, SolePred, Crossed, IsHeadOver}
 use Rattle.dxil_form.specs.Branches.{has}
 
 -- nodes, each listed once, of which a is the sole predecessor
@@ -16,6 +16,7 @@ pub record AreAbsorbed (g : Graph) (a : ℕ) (nodes : List ℕ) (now : Graph) : 
   pub formed : IsFormed now
   pub all_reached : AllReached now
   pub crossed : Crossed now ↔ Crossed g
+  pub heads : (h b : ℕ) → has b nodes ≡ false → IsHeadOver now h b ↔ IsHeadOver g h b
   pub live : (i : ℕ) → (now.live i ≡ true) ↔ ((g.live i ≡ true) × (has i nodes ≡ false))
   pub edge : (x y : ℕ) → (now.edge x y ≡ true)
       ↔ ((has x nodes ≡ false) × (has y nodes ≡ false) × ((g.edge x y ≡ true) ⊎ ((x ≡ a) × ((j : ℕ) × (has j nodes ≡ true) × (g.edge j y ≡ true)))))

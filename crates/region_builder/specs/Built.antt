@@ -10,7 +10,10 @@ use Rattle.dxil_form.specs.Walks.{EnteredBy}
 use Rattle.dxil_form.specs.Wired.{IsPart, MayWant}
 use Rattle.flow_graph.specs.Shapes.{Shape, plain}
 use Rattle.region_leaves.specs.Leaves.{AreReachable}
+use Rattle.head_table.specs.Table.{over}
 use Rattle.region_builder.specs.Walked.{Walked}
+use Rattle.region_builder.specs.Traced.{Traced}
+use Rattle.region_builder.specs.declared.partial.Partial.{Partial}
 use Rattle.region_builder.specs.declared.builder.Builder.{Builder}
 
 -- what is true of a list of regions whatever its roots are
@@ -50,18 +53,19 @@ pub record Built (p : Program) (list : List Region) (blocks places : List ℕ) (
   pub wanted : (i j : ℕ) → g.edge i j ≡ true → MayWant p list (slice_index places i) (slice_index blocks j)
   pub few : length list + 2 * count_below g.count g.live + self_edges g ≤ 4 * length blocks
 
--- how the regions are put together, and what they pass
-pub record BuiltBy (p : Program) (b : Builder) : Type 0 where
+-- how the regions are put together, what they pass, and what ties them to the beginning
+pub record BuiltBy (p : Program) (first : Partial) (b : Builder) : Type 0 where
   pub built : Built p b.list b.blocks.items b.places.items (plain b.graph)
   pub walked : Walked p b.list b.blocks.items b.places.items (plain b.graph)
+  pub traced : Traced p first b.list b.blocks.items b.places.items (plain b.graph) b.firsts.items b.heads
 
--- some program has these regions
+-- some program and some beginning have these regions
 abbrev pub IsBuilt : Builder → Type 0
-IsBuilt b = (p : Program) × BuiltBy p b
+IsBuilt b = (p : Program) × (first : Partial) × BuiltBy p first b
 
--- of whatever program the regions were, they still are
+-- whatever program and beginning the regions had, they still have
 abbrev pub Keeps : Builder → Builder → Type 0
-Keeps old new = (p : Program) → BuiltBy p old → BuiltBy p new
+Keeps old new = (p : Program) (first : Partial) → BuiltBy p first old → BuiltBy p first new
 
 -- the graph has as many nodes, live or not, and rings with two entrances where it had them
 pub record SameRings (old new : Shape) : Type 0 where
@@ -77,12 +81,14 @@ pub record IsSettled (g : Graph) (a : ℕ) : Type 0 where
   pub no_fold : g.edge a a ≡ true → ⊥
   pub no_absorb : (j : ℕ) → j ≢ 0 → SolePred g a j → ⊥
 
--- what calls have made of regions: they are still those of whatever program they were, rings have as many entrances, and there is less to do, where something was done
+-- what calls have made of regions: they are still those of whatever program they were, rings have as many entrances, no head is new, and there is less to do, where something was done
 pub record Went (old new : Builder) (done : Bool) : Type 0 where
   pub keeps : Keeps old new
   pub rings : SameRings old.graph new.graph
   pub smaller : done ≡ true → size new.graph < size old.graph
   pub same : done ≡ false → plain new.graph ≡ plain old.graph
+  pub told : done ≡ false → new.heads ≡ old.heads
+  pub fewer : (h b : ℕ) → over old.heads h b ≡ false → over new.heads h b ≡ false
 
 -- nothing may be done anywhere
 abbrev pub AllSettled : Graph → Type 0

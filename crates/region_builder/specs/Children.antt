@@ -1,10 +1,20 @@
 -- Nodes that a node may absorb.
-use Rattle.std.specs.Prelude.{◌≡◌, ◌≢◌, ℕ, ◌<◌, true, List, Some, slice_get, slice_index}
+use Rattle.std.specs.Prelude.{◌≡◌, ◌≢◌, ◌⊎◌, ℕ, ◌<◌, true, List, Option, length, Some, slice_get, slice_index}
 use Rattle.dxil_form.specs.Graphs.{Graph, SolePred}
+use Rattle.flow_graph.specs.Shapes.{plain}
+use Rattle.head_table.specs.Table.{over}
+use Rattle.region_builder.specs.declared.builder.Builder.{Builder}
+use Rattle.region_builder.specs.Settled.{IsAllowed}
 
--- nodes below n, in order, of which a is the sole predecessor
-pub record AreChildrenBelow (g : Graph) (a n : ℕ) (nodes : List ℕ) : Type 0 where
-  pub sole : (m j : ℕ) → slice_get nodes m ≡ Some j → SolePred g a j
+-- of each node the sole predecessor, where one is told
+abbrev pub AreSolePreds : Graph → List (Option ℕ) → Type 0
+AreSolePreds g preds = (i j : ℕ) → slice_get preds j ≡ Some (Some i) → SolePred g i j
+
+-- nodes below n, in order, that a may absorb and of which it is the sole predecessor at first too
+pub record AreChildrenBelow (b : Builder) (a n : ℕ) (nodes : List ℕ) : Type 0 where
+  pub sole : (m j : ℕ) → slice_get nodes m ≡ Some j → SolePred (plain b.graph) a j
+  pub own : (m j : ℕ) → slice_get nodes m ≡ Some j → slice_get b.firsts.items j ≡ Some (Some a)
+  pub allowed : (m j : ℕ) → slice_get nodes m ≡ Some j → IsAllowed (over b.heads) a j
   pub nonzero : (m j : ℕ) → slice_get nodes m ≡ Some j → j ≢ 0
   pub below : (m j : ℕ) → slice_get nodes m ≡ Some j → j < n
   pub rising : (l m i j : ℕ) → l < m → slice_get nodes l ≡ Some i → slice_get nodes m ≡ Some j → i < j

@@ -1,6 +1,10 @@
 pub mod Nodes
+pub mod Loops
 pub mod Started
 pub mod Walked
+pub mod Headed
+pub mod Traced
+pub mod Settled
 pub mod Built
 pub mod Absorbing
 pub mod Children

@@ -11,6 +11,7 @@ use Rattle.flow_graph.specs.Shapes.{plain}
 use Rattle.region_laws.specs.Roots.{HasRoot, WiredRoots}
 use Rattle.region_laws.specs.Paths.{RootsPass}
 use Rattle.region_leaves.specs.Leaves.{AreReachable, leaves_of, placed_from}
+use Rattle.region_builder.specs.Loops.{ArmsAreSole}
 use Rattle.region_builder.specs.declared.partial.Partial.{Partial}
 
 -- node i of the graph stands for the i-th of the blocks, all nodes are live, and the edges are the branches
@@ -54,3 +55,4 @@ pub record IsPartial (p : Program) (partial : Partial) : Type 0 where
   pub wants : WantsAlongEdges p blocks partial.list partial.roots (plain partial.graph)
   pub passes : RootsPass p partial.list partial.roots
   pub walks : WalksAlongEdges p blocks partial.list partial.roots (plain partial.graph)
+  pub arms : ArmsAreSole p partial.list

@@ -2,23 +2,29 @@
 
 ghost use Rattle.std.specs.Prelude.{◌≡◌, ◌≢◌, ◌<◌, ◌∷◌, ◌++◌, [], ℕ, ◌^◌, length, slice_get, slice_index, slice_set, EachIndex, Some, true, false, ◌↔◌, OnOk, IfOk, IsTrue};
 ghost use Rattle.dxil_form.specs.declared.region.Region.TheVariants.{Leaf};
-ghost use Rattle.dxil_form.specs.Graphs.{IsFormed, AllReached, SolePred, absorbed, folded};
+ghost use Rattle.dxil_form.specs.Graphs.{IsFormed, AllReached, SolePred, absorbed};
 ghost use Rattle.flow_graph.specs.Shapes.{plain};
-ghost use Rattle.region_builder.specs.Built.{IsBuilt, Keeps, SameRings, size};
+ghost use Rattle.head_table.specs.Table.{over};
+ghost use Rattle.region_builder.specs.Settled.{IsAllowed, MayRepeat};
+ghost use Rattle.region_builder.specs.Built.{IsBuilt, Keeps, SameRings, Went, size};
 ghost use Rattle.region_builder.specs.Absorbing.{AreChildren, AreAbsorbed, arms_of};
 
 use dx_base::{Cases, List, OutOfMemory};
 use dxil_form::{Region, RegionList};
 use flow_graph::Graph;
+use head_table::HeadTable;
 use std::alloc::Global;
 
-/// A list of regions; the block that enters each node; the place of the root of each live node; and the graph of the nodes.
+/// A list of regions; the block that enters each node; the place of the root of each live node; the graph of the nodes; the sole predecessor of each node at first, if
+/// it had one; and the heads that have no loop yet.
 #[derive(Drop)]
 pub(crate) struct Builder {
     pub(crate) list: RegionList,
     pub(crate) blocks: Vec<u32>,
     pub(crate) places: Vec<u32>,
     pub(crate) graph: Graph,
+    pub(crate) firsts: Vec<Option<u32>>,
+    pub(crate) heads: HeadTable,
 }
 
 /// The arms that go on with the roots of nodes.
@@ -65,6 +71,8 @@ impl Builder {
         ensures places { OnOk result (self.new.places.items ≡ slice_set self.old.places.items a (length self.old.list)) }
         ensures blocks { OnOk result (self.new.blocks.items ≡ self.old.blocks.items) }
         ensures graph { OnOk result (self.new.graph ≡ self.old.graph) }
+        ensures firsts { OnOk result (self.new.firsts ≡ self.old.firsts) }
+        ensures heads { OnOk result (self.new.heads ≡ self.old.heads) }
     {
         let place = self.list.len() as u32;
         if self.list.push(region).is_err() {
@@ -79,10 +87,12 @@ impl Builder {
         requires built { IsBuilt self.old }
         requires entry { j ≢ 0 }
         requires sole { SolePred (plain self.old.graph) a j }
+        requires allowed { IsAllowed (over self.old.heads) a j }
         ensures built { OnOk result (Keeps self.old self.new) }
         ensures graph { OnOk result (plain self.new.graph ≡ absorbed (plain self.old.graph) a j) }
         ensures rings { OnOk result (SameRings self.old.graph self.new.graph) }
         ensures smaller { OnOk result (size self.new.graph < size self.old.graph) }
+        ensures heads { OnOk result (self.new.heads ≡ self.old.heads) }
     {
         let first = self.places[a as usize];
         let second = self.places[j as usize];
@@ -99,20 +109,28 @@ impl Builder {
         Ok(())
     }
 
+    /// Tells whether `a` wants its own block, and its rings pass no other live node.
+    fn may_repeat(&self, a: u32) -> bool
+        requires built { IsBuilt self.now }
+        requires live { (plain self.now.graph).live a ≡ true }
+        ensures { IsTrue result ↔ MayRepeat (over self.now.heads) (plain self.now.graph) a }
+    {
+        self.graph.has_edge(a, a) && self.heads.is_alone(&self.graph, a as usize)
+    }
+
     /// Lets `a` go round while it wants its own block, if it may, and tells whether it may.
     pub(crate) fn repeat(&mut self, a: u32) -> Result<bool, OutOfMemory>
         requires built { IsBuilt self.old }
         requires live { (plain self.old.graph).live a ≡ true }
-        ensures built { OnOk result (Keeps self.old self.new) }
-        ensures graph { OnOk result (plain self.new.graph ≡ folded (plain self.old.graph) a) }
-        ensures was { IfOk result (λ done. IsTrue done ↔ ((plain self.old.graph).edge a a ≡ true)) }
-        ensures rings { OnOk result (SameRings self.old.graph self.new.graph) }
-        ensures smaller { IfOk result (λ done. IsTrue done → size self.new.graph < size self.old.graph) }
-        ensures same { IfOk result (λ done. done ≡ false → plain self.new.graph ≡ plain self.old.graph) }
+        ensures went { IfOk result (λ done. Went self.old self.new done) }
+        ensures live { OnOk result ((plain self.new.graph).live a ≡ true) }
+        ensures may { IfOk result (λ done. done ≡ false → MayRepeat (over self.old.heads) (plain self.old.graph) a → ⊥) }
     {
-        if !self.graph.fold(a) {
+        if !self.may_repeat(a) {
             return Ok(false);
         }
+        self.graph.fold(a);
+        self.heads.end_head(a as usize);
         let body = self.places[a as usize];
         let head = self.blocks[a as usize];
         self.add(a, Region::Loop { body, head })?;
@@ -136,10 +154,13 @@ impl Builder {
         requires built { IsBuilt self.old }
         requires leaf { (block : ℕ) × (slice_get self.old.list (slice_index self.old.places.items a) ≡ Some (Leaf block)) }
         requires children { AreChildren (plain self.old.graph) a nodes.now }
+        requires own { (n j : ℕ) → slice_get nodes.now n ≡ Some j → slice_get self.old.firsts.items j ≡ Some (Some a) }
+        requires allowed { (n j : ℕ) → slice_get nodes.now n ≡ Some j → IsAllowed (over self.old.heads) a j }
         ensures built { OnOk result (Keeps self.old self.new) }
         ensures graph { OnOk result (AreAbsorbed (plain self.old.graph) a nodes.now (plain self.new.graph)) }
         ensures rings { OnOk result (SameRings self.old.graph self.new.graph) }
         ensures smaller { OnOk result (size self.new.graph < size self.old.graph) }
+        ensures heads { OnOk result (self.new.heads ≡ self.old.heads) }
     {
         let first = self.places[a as usize];
         let arms = arms_for(alloc, &self.blocks, &self.places, nodes)?;

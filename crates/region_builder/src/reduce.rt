@@ -1,10 +1,12 @@
 //! Rewriting as far as possible.
 
-ghost use Rattle.std.specs.Prelude.{◌≡◌, ◌≢◌, ◌<◌, ◌≤◌, ◌+◌, ℕ, length, slice_get, true, false, ◌||◌, OnOk, IfOk, IsTrue};
+ghost use Rattle.std.specs.Prelude.{◌≡◌, ◌≢◌, ◌<◌, ◌≤◌, ◌+◌, ℕ, length, slice_get, true, false, ◌||◌, OnOk, IfOk, IsTrue, Some};
 ghost use Rattle.std.specs.Option.{IfSome, IfNone};
 ghost use Rattle.dxil_form.specs.Graphs.{SolePred};
 ghost use Rattle.flow_graph.specs.Shapes.{plain};
-ghost use Rattle.region_builder.specs.Built.{IsBuilt, Keeps, SameRings, IsSettled, AllSettled, Went, size};
+ghost use Rattle.head_table.specs.Table.{over};
+ghost use Rattle.region_builder.specs.Settled.{IsAllowed, MayRepeat, IsSettledBy, AllSettledBy};
+ghost use Rattle.region_builder.specs.Built.{IsBuilt, Keeps, SameRings, Went, size};
 ghost use Rattle.region_builder.specs.Children.{AreChildrenBelow};
 
 use crate::builder::Builder;
@@ -19,8 +21,8 @@ fn either(a: bool, b: bool) -> bool
 }
 
 impl Builder {
-    /// Tells whether `a` is the sole predecessor of another node than the entry.
-    fn is_child(&self, a: u32, j: u32) -> bool
+    /// Tells whether `a` is the sole predecessor of a node.
+    fn is_parent(&self, a: u32, j: u32) -> bool
         requires j { j < self.now.graph.count }
         ensures yes { IsTrue result → SolePred (plain self.now.graph) a j }
         ensures no { SolePred (plain self.now.graph) a j → (plain self.now.graph).live j ≡ true → IsTrue result }
@@ -28,12 +30,26 @@ impl Builder {
         self.graph.is_live(j) && self.graph.sole_pred(j) == Some(a)
     }
 
-    /// The first node but the entry of which `a` is the sole predecessor.
+    /// Tells whether `a` may absorb `j`.
+    fn is_child(&self, a: u32, j: u32) -> bool
+        requires built { IsBuilt self.now }
+        requires live { (plain self.now.graph).live a ≡ true }
+        requires j { j < length self.now.blocks.items }
+        ensures sole { IsTrue result → SolePred (plain self.now.graph) a j }
+        ensures allowed { IsTrue result → IsAllowed (over self.now.heads) a j }
+        ensures no { SolePred (plain self.now.graph) a j → IsAllowed (over self.now.heads) a j → IsTrue result }
+    {
+        self.is_parent(a, j) && self.heads.allows(a as usize, j as usize)
+    }
+
+    /// The first node but the entry that `a` may absorb.
     fn first_child(&self, a: u32) -> Option<u32>
         requires built { IsBuilt self.now }
-        ensures some { IfSome result (λ j. SolePred (plain self.now.graph) a j) }
+        requires live { (plain self.now.graph).live a ≡ true }
+        ensures sole { IfSome result (λ j. SolePred (plain self.now.graph) a j) }
+        ensures allowed { IfSome result (λ j. IsAllowed (over self.now.heads) a j) }
         ensures nonzero { IfSome result (λ j. j ≢ 0) }
-        ensures none { IfNone result ((j : ℕ) → j ≢ 0 → SolePred (plain self.now.graph) a j → ⊥) }
+        ensures none { IfNone result ((j : ℕ) → j ≢ 0 → SolePred (plain self.now.graph) a j → IsAllowed (over self.now.heads) a j → ⊥) }
     {
         for j in 1..self.blocks.len() as u32 {
             if self.is_child(a, j) {
@@ -43,20 +59,15 @@ impl Builder {
         None
     }
 
-    /// The nodes but the entry of which `a` is the sole predecessor, now and at first.
-    fn children(
-        &self,
-        alloc: Global,
-        firsts: &[Option<u32>],
-        a: u32,
-    ) -> Result<Vec<u32>, OutOfMemory>
+    /// The nodes but the entry that `a` may absorb and of which it was the sole predecessor at first.
+    fn children(&self, alloc: Global, a: u32) -> Result<Vec<u32>, OutOfMemory>
         requires built { IsBuilt self.now }
-        requires firsts { length firsts.now ≡ length self.now.blocks.items }
-        ensures { IfOk result (λ nodes. AreChildrenBelow (plain self.now.graph) a (length self.now.blocks.items) nodes.items) }
+        requires live { (plain self.now.graph).live a ≡ true }
+        ensures { IfOk result (λ nodes. AreChildrenBelow self.now a (length self.now.blocks.items) nodes.items) }
     {
         let mut nodes = Vec::new(alloc);
         for j in 1..self.blocks.len() as u32 {
-            if firsts[j as usize] == Some(a) && self.is_child(a, j) && nodes.push(j).is_err() {
+            if self.firsts[j as usize] == Some(a) && self.is_child(a, j) && nodes.push(j).is_err() {
                 return Err(OutOfMemory);
             }
         }
@@ -64,14 +75,8 @@ impl Builder {
     }
 
     /// Lets the leaf of `a` go on with those nodes, if there are any.
-    fn branch_children(
-        &mut self,
-        alloc: Global,
-        firsts: &[Option<u32>],
-        a: u32,
-    ) -> Result<bool, OutOfMemory>
+    fn branch_children(&mut self, alloc: Global, a: u32) -> Result<bool, OutOfMemory>
         requires built { IsBuilt self.old }
-        requires firsts { length firsts.now ≡ length self.old.blocks.items }
         requires live { (plain self.old.graph).live a ≡ true }
         ensures went { IfOk result (λ done. Went self.old self.new done) }
         ensures live { OnOk result ((plain self.new.graph).live a ≡ true) }
@@ -79,7 +84,7 @@ impl Builder {
         if !self.is_leaf(a) {
             return Ok(false);
         }
-        let nodes = self.children(alloc, firsts, a)?;
+        let nodes = self.children(alloc, a)?;
         if nodes.is_empty() {
             return Ok(false);
         }
@@ -87,12 +92,12 @@ impl Builder {
         Ok(true)
     }
 
-    /// Lets `a` go on with every node of which it is the sole predecessor.
+    /// Lets `a` go on with every node that it may absorb.
     fn join_children(&mut self, a: u32) -> Result<bool, OutOfMemory>
         requires built { IsBuilt self.old }
         requires live { (plain self.old.graph).live a ≡ true }
         ensures went { IfOk result (λ done. Went self.old self.new done) }
-        ensures none { OnOk result ((j : ℕ) → j ≢ 0 → SolePred (plain self.new.graph) a j → ⊥) }
+        ensures none { OnOk result ((j : ℕ) → j ≢ 0 → SolePred (plain self.new.graph) a j → IsAllowed (over self.new.heads) a j → ⊥) }
     {
         let mut joined = false;
         while let Some(j) = self.first_child(a) {
@@ -103,63 +108,67 @@ impl Builder {
     }
 
     /// Does what may be done at a live node, and tells whether anything was done.
-    fn step(&mut self, alloc: Global, firsts: &[Option<u32>], a: u32) -> Result<bool, OutOfMemory>
+    fn step(&mut self, alloc: Global, a: u32) -> Result<bool, OutOfMemory>
         requires built { IsBuilt self.old }
-        requires firsts { length firsts.now ≡ length self.old.blocks.items }
         requires live { (plain self.old.graph).live a ≡ true }
         ensures went { IfOk result (λ done. Went self.old self.new done) }
-        ensures settled { IfOk result (λ done. done ≡ false → IsSettled (plain self.old.graph) a) }
+        ensures settled { IfOk result (λ done. done ≡ false → IsSettledBy (over self.old.heads) (plain self.old.graph) a) }
     {
         let folded = self.repeat(a)?;
-        let branched = self.branch_children(alloc, firsts, a)?;
+        let branched = self.branch_children(alloc, a)?;
         let joined = self.join_children(a)?;
         Ok(either(folded, either(branched, joined)))
     }
 
     /// The same at any node.
-    fn visit(&mut self, alloc: Global, firsts: &[Option<u32>], a: u32) -> Result<bool, OutOfMemory>
+    fn visit(&mut self, alloc: Global, a: u32) -> Result<bool, OutOfMemory>
         requires built { IsBuilt self.old }
-        requires firsts { length firsts.now ≡ length self.old.blocks.items }
         requires a { a < self.old.graph.count }
         ensures went { IfOk result (λ done. Went self.old self.new done) }
-        ensures settled { IfOk result (λ done. done ≡ false → (plain self.old.graph).live a ≡ true → IsSettled (plain self.old.graph) a) }
+        ensures settled { IfOk result (λ done. done ≡ false → (plain self.old.graph).live a ≡ true → IsSettledBy (over self.old.heads) (plain self.old.graph) a) }
     {
         if self.graph.is_live(a) {
-            self.step(alloc, firsts, a)
+            self.step(alloc, a)
         } else {
             Ok(false)
         }
     }
 
     /// Visits each node, the last one first, and tells whether anything was done.
-    fn round(&mut self, alloc: Global, firsts: &[Option<u32>]) -> Result<bool, OutOfMemory>
+    fn round(&mut self, alloc: Global) -> Result<bool, OutOfMemory>
         requires built { IsBuilt self.old }
-        requires firsts { length firsts.now ≡ length self.old.blocks.items }
         ensures went { IfOk result (λ done. Went self.old self.new done) }
-        ensures settled { IfOk result (λ done. done ≡ false → AllSettled (plain self.old.graph)) }
+        ensures settled { IfOk result (λ done. done ≡ false → AllSettledBy (over self.old.heads) (plain self.old.graph)) }
     {
         let mut changed = false;
         let count = self.blocks.len() as u32;
         for seen in 0..count {
-            let done = self.visit(alloc, firsts, count - 1 - seen)?;
+            let done = self.visit(alloc, count - 1 - seen)?;
             changed = either(changed, done);
         }
         Ok(changed)
     }
 
     /// Visits all nodes until nothing may be done any more.
-    pub(crate) fn reduce(
-        &mut self,
-        alloc: Global,
-        firsts: &[Option<u32>],
-    ) -> Result<(), OutOfMemory>
+    pub(crate) fn reduce(&mut self, alloc: Global) -> Result<(), OutOfMemory>
         requires built { IsBuilt self.old }
-        requires firsts { length firsts.now ≡ length self.old.blocks.items }
         ensures built { OnOk result (Keeps self.old self.new) }
         ensures rings { OnOk result (SameRings self.old.graph self.new.graph) }
-        ensures settled { OnOk result (AllSettled (plain self.new.graph)) }
+        ensures settled { OnOk result (AllSettledBy (over self.new.heads) (plain self.new.graph)) }
+        ensures fewer { OnOk result ((h b : ℕ) → over self.old.heads h b ≡ false → over self.new.heads h b ≡ false) }
     {
-        while self.round(alloc, firsts)? {}
+        while self.round(alloc)? {}
         Ok(())
+    }
+
+    /// Forgets the heads that have no loop, which are those of crossed rings.
+    pub(crate) fn forget(&mut self)
+        requires built { IsBuilt self.old }
+        requires settled { AllSettledBy (over self.old.heads) (plain self.old.graph) }
+        ensures built { Keeps self.old self.new }
+        ensures rings { SameRings self.old.graph self.new.graph }
+        ensures cleared { (h b : ℕ) → over self.new.heads h b ≡ false }
+    {
+        self.heads.clear();
     }
 }

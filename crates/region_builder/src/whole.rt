@@ -6,12 +6,14 @@ ghost use Rattle.dxil_form.specs.Graphs.{Crossed};
 ghost use Rattle.flow_graph.specs.Shapes.{plain};
 ghost use Rattle.region_builder.specs.Started.{IsStarted, IsPartial};
 ghost use Rattle.region_builder.specs.Built.{IsBuilt, BuiltBy, AllSettled};
-ghost use Rattle.region_builder.specs.Children.{AreRoots};
+ghost use Rattle.region_builder.specs.Loops.{LoopsAreRings};
+ghost use Rattle.region_builder.specs.Children.{AreRoots, AreSolePreds};
 
 use crate::builder::Builder;
 use crate::partial::Partial;
 use dx_base::{Cases, List, OutOfMemory};
 use flow_graph::Graph;
+use head_table::HeadTable;
 use std::alloc::Global;
 
 /// The blocks that enter the roots.
@@ -40,36 +42,49 @@ fn places_of(alloc: Global, roots: &[(u32, u32)]) -> Result<Vec<u32>, OutOfMemor
     Ok(places)
 }
 
-/// Regions under roots, before anything was done.
-fn open(alloc: Global, partial: Partial) -> Result<Builder, OutOfMemory>
-    requires { (p : Program) × IsStarted p partial }
-    ensures built { IfOk result (λ builder. (p : Program) → IsStarted p partial → BuiltBy p builder) }
-    ensures live { IfOk result (λ builder. (i : ℕ) → i < length builder.blocks.items → (plain builder.graph).live i ≡ true) }
-    ensures graph { IfOk result (λ builder. builder.graph ≡ partial.graph) }
+/// Adds what is told of a node.
+fn add_pred(preds: &mut Vec<Option<u32>>, pred: Option<u32>) -> Result<(), OutOfMemory>
+    ensures { OnOk result (preds.new.items ≡ preds.old.items ++ pred ∷ []) }
 {
-    let blocks = blocks_of(alloc, partial.roots.as_slice())?;
-    let places = places_of(alloc, partial.roots.as_slice())?;
-    Ok(Builder {
-        list: partial.list,
-        blocks,
-        places,
-        graph: partial.graph,
-    })
+    match preds.push(pred) {
+        Ok(()) => Ok(()),
+        Err(_) => Err(OutOfMemory),
+    }
 }
 
 /// The sole predecessor of each of the first nodes, which are live.
 fn sole_preds(alloc: Global, graph: &Graph, count: usize) -> Result<Vec<Option<u32>>, OutOfMemory>
     requires few { count < 2 ^ 32 }
     requires live { (i : ℕ) → i < count → (plain graph.now).live i ≡ true }
-    ensures { IfOk result (λ preds. length preds.items ≡ count) }
+    ensures len { IfOk result (λ preds. length preds.items ≡ count) }
+    ensures sole { IfOk result (λ preds. AreSolePreds (plain graph.now) preds.items) }
 {
     let mut preds = Vec::new(alloc);
     for j in 0..count {
-        if preds.push(graph.sole_pred(j as u32)).is_err() {
-            return Err(OutOfMemory);
-        }
+        let pred = graph.sole_pred(j as u32);
+        add_pred(&mut preds, pred)?;
     }
     Ok(preds)
+}
+
+/// Regions under roots, before anything was done.
+fn open(alloc: Global, partial: Partial) -> Result<Builder, OutOfMemory>
+    requires { (p : Program) × IsStarted p partial }
+    ensures { IfOk result (λ builder. (p : Program) → IsStarted p partial → BuiltBy p partial builder) }
+{
+    let blocks = blocks_of(alloc, partial.roots.as_slice())?;
+    let places = places_of(alloc, partial.roots.as_slice())?;
+    let mut graph = partial.graph;
+    let firsts = sole_preds(alloc, &graph, blocks.len())?;
+    let heads = HeadTable::new(alloc, &mut graph, blocks.len())?;
+    Ok(Builder {
+        list: partial.list,
+        blocks,
+        places,
+        graph,
+        firsts,
+        heads,
+    })
 }
 
 /// Adds a root, if its node is live.
@@ -107,8 +122,10 @@ fn live_roots(
 fn shut(alloc: Global, builder: Builder) -> Result<Partial, OutOfMemory>
     requires built { IsBuilt builder }
     requires settled { AllSettled (plain builder.graph) }
-    ensures partial { IfOk result (λ left. (p : Program) → BuiltBy p builder → IsPartial p left) }
-    ensures single { IfOk result (λ left. (length left.roots ≡ 1) ↔ (Crossed (plain builder.graph) → ⊥)) }
+    ensures partial { IfOk result (λ left. (p : Program) (first : Partial) → BuiltBy p first builder → IsPartial p left) }
+    ensures single { IfOk result (λ left. (p : Program) (first : Partial) → BuiltBy p first builder → (length left.roots ≡ 1) ↔ (Crossed (plain first.graph) → ⊥)) }
+    ensures loops { IfOk result (λ left. (p : Program) (first : Partial) → BuiltBy p first builder → (Crossed (plain first.graph) → ⊥)
+        → LoopsAreRings (plain first.graph) (map (λ root. root.0) first.roots) left.list) }
 {
     let roots = live_roots(alloc, &builder.graph, &builder.blocks, &builder.places)?;
     Ok(Partial {
@@ -120,14 +137,16 @@ fn shut(alloc: Global, builder: Builder) -> Result<Partial, OutOfMemory>
 
 /// Puts regions together as far as the rewriting of their graph leads.
 ///
-/// One root is left exactly where no ring of the graph has two entrances.
+/// One root is left exactly where no ring of the graph has two entrances. Then each head has one loop, over the blocks that its rings pass.
 pub fn build(alloc: Global, partial: Partial) -> Result<Partial, OutOfMemory>
     requires { (p : Program) × IsStarted p partial }
     ensures partial { IfOk result (λ left. (p : Program) → IsStarted p partial → IsPartial p left) }
     ensures single { IfOk result (λ left. (length left.roots ≡ 1) ↔ (Crossed (plain partial.graph) → ⊥)) }
+    ensures loops { IfOk result (λ left. (Crossed (plain partial.graph) → ⊥) → LoopsAreRings (plain partial.graph) (map (λ root. root.0) partial.roots) left.list) }
 {
     let mut builder = open(alloc, partial)?;
-    let firsts = sole_preds(alloc, &builder.graph, builder.blocks.len())?;
-    builder.reduce(alloc, &firsts)?;
+    builder.reduce(alloc)?;
+    builder.forget();
+    builder.reduce(alloc)?;
     shut(alloc, builder)
 }

@@ -1,9 +1,12 @@
-use Rattle.std.proofs.Common.{◌≡◌, ℕ, List, length, subst, sym, ap, arith}
+use Rattle.std.proofs.Common.{◌≡◌, ◌≤◌, ◌<◌, ℕ, List, Some, true, false, inr, refl, length, subst, sym, ap, arith}
 use Rattle.std.proofs.lemmas.Bool.{eqb-false}
+use Rattle.std.specs.List.{slice_get}
 use Rattle.flow_graph.specs.Shapes.{plain}
 use Rattle.region_builder.specs.Absorbing.{AreChildren}
 use Rattle.region_builder.proofs.Absorbing.{not_child}
-use Rattle.region_builder.proofs.Finding.{as_children}
+use Rattle.head_table.specs.Table.{over}
+use Rattle.region_builder.specs.Settled.{IsAllowed}
+use Rattle.region_builder.proofs.Finding.{as_children, went_nowhere, went_by}
 use Rattle.region_builder.proofs.builder.Builder.branch_children.Goals as goal
 use Rattle.region_builder.proofs.builder.Builder.branch_children.Goals.{After-deref}
 
@@ -11,12 +14,32 @@ are : (c : After-deref) → AreChildren (plain c.args.self.now.graph) c.args.a c
 are c =
     let some : c.in_ok-nodes.nodes.len ≡ 0 → ⊥ = eqb-false c.in_ok-nodes.nodes.len 0 (sym (c.if-is_empty.ensures)) in
     let P : List ℕ → Type 0 = λ l. AreChildren (plain c.args.self.now.graph) c.args.a l in
-    subst P (sym c.deref.ensures.value) (as_children (plain c.args.self.now.graph) c.args.a _ c.in_ok-nodes.nodes.items c.in_ok-nodes.ensures (
+    subst P (sym c.deref.ensures.value) (as_children c.args.self.now c.args.a _ c.in_ok-nodes.nodes.items c.in_ok-nodes.ensures (
     let e = ap (λ (l : List ℕ). length l) c.deref.ensures.value in
     let n = c.deref.ensures.len in omega arith))
 
 pub branch-self-requires-clause-children : goal.branch-self-requires-clause-children
 branch-self-requires-clause-children c = are c
+
+pub branch-self-requires-clause-own : goal.branch-self-requires-clause-own
+branch-self-requires-clause-own c =
+    let P : List ℕ → Type 0 = λ l. (n j : ℕ) → slice_get l n ≡ Some j → slice_get c.args.self.now.firsts.items j ≡ Some (Some c.args.a) in
+    subst P (sym c.deref.ensures.value) c.in_ok-nodes.ensures.own
+
+pub branch-self-requires-clause-allowed : goal.branch-self-requires-clause-allowed
+branch-self-requires-clause-allowed c =
+    let P : List ℕ → Type 0 = λ l. (n j : ℕ) → slice_get l n ≡ Some j → IsAllowed (over c.args.self.now.heads) c.args.a j in
+    subst P (sym c.deref.ensures.value) c.in_ok-nodes.ensures.allowed
+
+pub returns-then-not-is_leaf-clause-went : goal.returns-then-not-is_leaf-clause-went
+returns-then-not-is_leaf-clause-went c = went_nowhere c.args.self.now
+
+pub returns-then-is_empty-clause-went : goal.returns-then-is_empty-clause-went
+returns-then-is_empty-clause-went c = went_nowhere c.args.self.now
+
+pub returns-clause-went : goal.returns-clause-went
+returns-clause-went c =
+    went_by c.args.self.now c.branch-self.new.self c.in_ok-branch.ensures.built c.in_ok-branch.ensures.rings c.in_ok-branch.ensures.smaller c.in_ok-branch.ensures.heads
 
 pub returns-clause-live : goal.returns-clause-live
 returns-clause-live c =

@@ -4,11 +4,6 @@ use Rattle.region_builder.specs.Built.{Went}
 use Rattle.region_builder.proofs.Finding.{went_on, same_blocks, or_false, settled_step, SettledFrom}
 use Rattle.region_builder.proofs.builder.Builder.round.Goals as goal
 
-pub visit-requires-clause-firsts : goal.visit-requires-clause-firsts
-visit-requires-clause-firsts c =
-    let e = same_blocks c.args.self.now c.loop-seen.self c.requires.built c.loop-seen.invariant.went.keeps c.loop-seen.invariant.went.rings in
-    let f = c.requires.firsts in omega arith
-
 pub loop-seen-preserved : goal.loop-seen-preserved
 loop-seen-preserved c = record {
   went = (let P : Bool → Type 0 = λ d. Went c.args.self.now c.visit.new.self d in
@@ -17,7 +12,7 @@ loop-seen-preserved c = record {
       let (x, y) = or_false c.loop-seen.changed c.in_ok-done.done (sym c.either-changed.ensures ∙ f) in
       let n : c.len-count.result - 1 - c.loop-seen.seen ≡ c.len-count.result - (c.loop-seen.seen + 1) = omega arith in
       let m : suc (c.len-count.result - 1 - c.loop-seen.seen) ≡ c.len-count.result - c.loop-seen.seen = omega arith in
-      let P : ℕ → Type 0 = λ z. SettledFrom (plain c.args.self.now.graph) c.len-count.result z in
+      let P : ℕ → Type 0 = λ z. SettledFrom c.args.self.now.heads (plain c.args.self.now.graph) c.len-count.result z in
       subst P n (settled_step c.args.self.now c.loop-seen.self c.loop-seen.changed c.len-count.result (c.len-count.result - 1 - c.loop-seen.seen)
       c.loop-seen.invariant.went x (subst P (sym m) (c.loop-seen.invariant.settled x)) (c.in_ok-done.ensures.settled y)));
 }
