@@ -3,8 +3,11 @@ use Rattle.std.specs.Prelude.{◌≡◌, ◌==◌, ◌&&◌, ℕ, Bool, List, []
 use Rattle.dx_base.specs.declared.fault.Fault.{Fault}
 use Rattle.dx_base.specs.declared.fault.Fault.TheVariants.{Refused, Limit, OutOfMemory}
 use Rattle.dx_base.specs.declared.fault.Rule.{Rule}
-use Rattle.dx_base.specs.declared.fault.Rule.TheVariants.{NotYet}
+use Rattle.dx_base.specs.declared.fault.Rule.TheVariants.{P, NotYet}
 use Rattle.dx_base.specs.declared.fault.Which.{Which}
+use Rattle.dx_base.specs.declared.fault.Which.TheVariants.{Resources}
+use Rattle.dx_base.specs.First.{IsFirst}
+use Rattle.dxil_form.specs.declared.program.Program.{Program}
 use Rattle.dxbc_container.specs.declared.part.Parts.{Parts}
 use Rattle.bitstream_spelling.specs.declared.item.Item.{Item}
 use Rattle.dx_file.specs.Layers.{Refusal, refused, limited, IsContent, IsFirstRefusal}
@@ -12,6 +15,9 @@ use Rattle.llvm_bodies.specs.declared.line.Body.{Body}
 use Rattle.llvm_bodies.specs.declared.line.Line.{Line}
 use Rattle.llvm_shader.specs.Shader.{IsShader, AreSound, IsFirstRefusal as IsFirstOfModule}
 use Rattle.llvm_shader.specs.declared.read.Shader.{Shader}
+use Rattle.entry_read.specs.Entry.{entry_body}
+use Rattle.profile_rules.specs.Rules.{Broken}
+use Rattle.dxil_profile.specs.Profile.{Meets}
 use Rattle.dx_translate.specs.ModuleWords.{module_words}
 
 -- The words of the module, or the first broken rule or passed limit with its bit.
@@ -54,11 +60,28 @@ pub data IsShaderVerdict (shader : Shader) : Verdict → Type 0 where
 
 -- ---- of a module's items, and of a file
 
+-- the refusal of a rule of the profile by its number; the limit of resources has the number 23
+abbrev pub refusal_by : ℕ → ℕ → Refusal
+refusal_by rule bit = if rule == 23 then limited Resources bit else refused (P rule) bit
+
+-- the first rule of the profile that the entry body of a shader breaks
+abbrev pub IsFirstOfProfile : Shader → ℕ → ℕ → Type 0
+IsFirstOfProfile shader rule bit = IsFirst (Broken (entry_body shader.types shader.records shader.facts)) rule bit
+
+-- the shader meets the profile, and states this program
+abbrev pub MeetsProfile : Shader → Program → Type 0
+MeetsProfile shader p = Meets shader.types shader.records shader.facts p
+
+-- The verdict on a shader behind those on its module: the first rule of the profile that it breaks; else the verdict on its form.
+pub data IsProfileVerdict (shader : Shader) : Verdict → Type 0 where
+  by_profile : (rule bit : ℕ) → IsFirstOfProfile shader rule bit → IsProfileVerdict shader (stopped (refusal_by rule bit))
+  by_program : (p : Program) (v : Verdict) → MeetsProfile shader p → IsShaderVerdict shader v → IsProfileVerdict shader v
+
 -- The verdict on the items of a module: the first refusal of its layers; else the verdict on the shader that it states.
 pub data IsModuleVerdict (is : List Item) (fs : List ℕ) : Verdict → Type 0 where
   by_rule : (rule : Rule) (bit : ℕ) → IsFirstOfModule is fs (Refused rule bit) → IsModuleVerdict is fs (stopped (refused rule bit))
   by_limit : (which : Which) (bit : ℕ) → IsFirstOfModule is fs (Limit which bit) → IsModuleVerdict is fs (stopped (limited which bit))
-  by_shader : (shader : Shader) (v : Verdict) → IsShader is fs shader → AreSound is fs → IsShaderVerdict shader v → IsModuleVerdict is fs v
+  by_shader : (shader : Shader) (v : Verdict) → IsShader is fs shader → AreSound is fs → IsProfileVerdict shader v → IsModuleVerdict is fs v
 
 -- The verdict on a file: the first refusal of the layers C and B, where the file has no content; else the verdict on the items of its content.
 pub data IsVerdict (bytes : List ℕ) : Verdict → Type 0 where

@@ -1,11 +1,15 @@
 ghost use Rattle.std.specs.Prelude.{◌≡◌, ◌≤◌, ◌^◌, length};
 ghost use Rattle.bitstream_spelling.specs.Framed.{IsFramed};
-ghost use Rattle.dx_translate.specs.Verdicts.{is_return as returns_nothing, entry_lines as lines_of_entry, departs, IsShaderVerdict, IsModuleVerdict, VerdictAnswer, TranslateAnswer};
+ghost use Rattle.entry_read.specs.Entry.{entry_body};
+ghost use Rattle.profile_tables.specs.Read.{IsRead};
+ghost use Rattle.dx_translate.specs.Verdicts.{is_return as returns_nothing, entry_lines as lines_of_entry, departs, IsShaderVerdict, IsProfileVerdict, IsModuleVerdict, VerdictAnswer, TranslateAnswer};
 
 use crate::module_words::{Threads, module_of};
 use bitstream_spelling::Items;
 use dx_base::{Fault, OutOfMemory, Rule, Words};
 use dx_file::read_file;
+use dxil_profile::profile;
+use entry_read::entry_is_read;
 use llvm_bodies::Line;
 use llvm_shader::{Shader, read_shader};
 use std::alloc::Global;
@@ -42,8 +46,8 @@ fn departure_of(lines: &[Line]) -> Option<u64>
     }
 }
 
-/// The words of the module of a shader.
-fn translate_shader(alloc: Global, shader: &Shader) -> Result<Words, Fault>
+/// The words of the module of a shader that meets the profile.
+fn translate_form(alloc: Global, shader: &Shader) -> Result<Words, Fault>
     ensures { VerdictAnswer (IsShaderVerdict shader.now) result }
 {
     match departure_of(entry_lines(shader)) {
@@ -61,11 +65,23 @@ fn translate_shader(alloc: Global, shader: &Shader) -> Result<Words, Fault>
     }
 }
 
+/// The words of the module of a shader.
+fn translate_shader(alloc: Global, shader: &Shader) -> Result<Words, Fault>
+    requires { IsRead (entry_body shader.now.types shader.now.records shader.now.facts) shader.now.facts.local }
+    ensures { VerdictAnswer (IsProfileVerdict shader.now) result }
+{
+    match profile(alloc, &shader.types, &shader.records, &shader.facts) {
+        Ok(_program) => translate_form(alloc, shader),
+        Err(fault) => Err(fault),
+    }
+}
+
 /// The words of the module of the shader that the items of the bitcode state.
 fn translate_items(alloc: Global, items: &Items) -> Result<Words, Fault>
     requires { IsFramed items.now.list items.now.fields }
     ensures { VerdictAnswer (IsModuleVerdict items.now.list items.now.fields) result }
 {
+    entry_is_read();
     match read_shader(alloc, items) {
         Ok(shader) => translate_shader(alloc, &shader),
         Err(fault) => Err(fault),
@@ -76,7 +92,7 @@ fn translate_items(alloc: Global, items: &Items) -> Result<Words, Fault>
 ///
 /// # Errors
 ///
-/// The first refusal of the container, and behind it that of the bitstream, as `read_file` answers them. Where the file carries items, the first refusal of the module, as `read_shader` answers it. Where the module states a shader, a form that the translator does not take yet if the body of its entry function is more than one RET without a value: at the first instruction, if that is none, else at the second. Or want of memory.
+/// The first refusal of the container, and behind it that of the bitstream, as `read_file` answers them. Where the file carries items, the first refusal of the module, as `read_shader` answers it. Where the module states a shader, the first refusal of the profile, as `profile` answers it. Where the shader meets the profile, a form that the translator does not take yet if the body of its entry function is more than one RET without a value: at the first instruction, if that is none, else at the second. Or want of memory.
 pub fn translate(alloc: Global, bytes: &[u8]) -> Result<Words, Fault>
     requires { length bytes.now ≤ 2 ^ 26 }
     ensures { TranslateAnswer result bytes.now }

@@ -253,7 +253,7 @@ const BODIES: [Case<'static>; 13] = [
     (&[(12, 0, &[(1, &[0])])], Some((Rule::M(7), 2080))),
     // a BR to block 1, of 1 block, and to block 0
     (&[(12, 1, &[(11, &[1])])], Some((Rule::M(8), 2102))),
-    (&[(12, 1, &[(11, &[0])])], Some((Rule::NotYet, 2102))),
+    (&[(12, 1, &[(11, &[0])])], Some((Rule::P(8), 2102))),
     // two returns in one block, told at the body's end, and in two
     (
         &[(12, 1, &[(10, &[]), (10, &[])])],
@@ -264,7 +264,7 @@ const BODIES: [Case<'static>; 13] = [
         Some((Rule::NotYet, 2118)),
     ),
     // a RET of a value, an UNREACHABLE, and a sum before the return
-    (&[(12, 1, &[(10, &[1])])], Some((Rule::NotYet, 2102))),
+    (&[(12, 1, &[(10, &[1])])], Some((Rule::P(6), 2102))),
     (&[(12, 1, &[(15, &[])])], Some((Rule::NotYet, 2102))),
     (
         &[(12, 1, &[(2, &[1, 1, 0]), (10, &[])])],

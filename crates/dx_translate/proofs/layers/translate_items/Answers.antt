@@ -6,3 +6,6 @@ returns-in-Ok c = shader_verdict _ _ _ _ c.in-Ok.ensures c.translate_shader.ensu
 
 pub returns-in-Err : goal.returns-in-Err
 returns-in-Err c = module_fault _ _ _ c.in-Err.ensures
+
+pub translate_shader-requires : goal.translate_shader-requires
+translate_shader-requires c = c.entry_is_read.ensures _ _ _ c.requires c.in-Ok.ensures.0 c.in-Ok.ensures.1

@@ -1,8 +1,8 @@
-use Rattle.dx_translate.proofs.VerdictLaws.{other_verdict, return_verdict}
+use Rattle.dx_translate.proofs.VerdictLaws.{form_verdict, profile_fault}
 use Rattle.dx_translate.proofs.layers.translate_shader.Goals as goal
 
-pub returns-in-Some : goal.returns-in-Some
-returns-in-Some c = other_verdict _ _ _ c.entry_lines.ensures c.in-Some.ensures
-
 pub returns-in-Ok : goal.returns-in-Ok
-returns-in-Ok c = return_verdict _ _ _ c.entry_lines.ensures c.in-None.ensures c.in-Ok.ensures
+returns-in-Ok c = form_verdict _ _ _ c.in-Ok.ensures c.translate_form.ensures
+
+pub returns-in-Err : goal.returns-in-Err
+returns-in-Err c = profile_fault _ _ c.in-Err.ensures
