@@ -20,7 +20,7 @@ names = ["createHandle", "bufferLoad", "bufferStore", "threadIdInGroup", "barrie
 symbols = [(1, [2 + n] + text("dx.op." + word)) for n, word in enumerate(names)]
 
 # the values from 7 on: i32 numbers, an undefined one; i8 1; i1 0
-ints = [6, 0, 1, 2, 4, 64, 57, 68, 69, 93, 80, 9, 11]
+ints = [6, 0, 1, 2, 4, 64, 57, 68, 69, 95, 80, 9, 11]
 constants = [(1, [2])] + [(4, [2 * n]) for n in ints] + [(3, []), (1, [4]), (4, [2]), (1, [3]), (2, [])]
 value = {n: 7 + at for at, n in enumerate(ints)}
 UNDEF = 7 + len(ints)
@@ -52,7 +52,7 @@ body = [
     (1, [7]),
     # block 0
     call(HANDLE, 2, value[57], ONE, value[0], value[0], FALSE),
-    call(T, 5, value[93], value[0]),
+    call(T, 5, value[95], value[0]),
     (2, [back(A, T), back(A, value[2]), 7]),
     call(LOADED, 3, value[68], HANDLE, A, UNDEF),
     (26, [back(X, LOADED), 0]),

@@ -28,8 +28,8 @@ globals_ = [(7, [12, 14, 0]), (8, [1, 0, 0, 0]), (8, [7, 0, 1]), (8, [8, 0, 1]),
 names = ["createHandle", "bufferLoad", "bufferStore", "threadIdInGroup", "barrier"]
 symbols = [(1, [2 + n] + text("dx.op." + word)) for n, word in enumerate(names)]
 
-# the values from 7 on: i32 6, 0, 1, 4, 64, 57, 68, 69, 93, 80, 9, 11, 200, undef; i8 1, 15, 0; i1 0
-ints = [6, 0, 1, 4, 64, 57, 68, 69, 93, 80, 9, 11, 200]
+# the values from 7 on: i32 6, 0, 1, 4, 64, 57, 68, 69, 95, 80, 9, 11, 200, undef; i8 1, 15, 0; i1 0
+ints = [6, 0, 1, 4, 64, 57, 68, 69, 95, 80, 9, 11, 200]
 constants = [(1, [2])] + [(4, [2 * n]) for n in ints] + [(3, []), (1, [4]), (4, [2]), (4, [30]), (2, []), (1, [3]), (2, [])]
 value = {n: 7 + at for at, n in enumerate(ints)}
 UNDEF, ONE, MASK, ZERO, FALSE, COUNT = 20, 21, 22, 23, 24, 25
@@ -52,7 +52,7 @@ body = [
     (1, [4]),
     # handle of the row of class 1 and id 0; thread; the buffer at thread; its first part
     (34, [0, 0] + [back(HANDLE, n) for n in (2, value[57], ONE, value[0], value[0], FALSE)]),
-    (34, [0, 0] + [back(THREAD, n) for n in (5, value[93], value[0])]),
+    (34, [0, 0] + [back(THREAD, n) for n in (5, value[95], value[0])]),
     (34, [0, 0] + [back(LOADED, n) for n in (3, value[68], HANDLE, THREAD, UNDEF)]),
     (26, [back(PART, LOADED), 0]),
     # s[thread] is the part; a barrier; s[thread] again
@@ -141,7 +141,7 @@ rows = [
     ("a call of main", "P13", 7, {(FUNCTION, 7): [call(READ, 1)]}),
     ("an opcode of 8 bits", "P14", 7, {(FUNCTION, 7): [call(READ, 6, MASK, value[9])]}),
     ("the opcode 200", "P15", 7, {(FUNCTION, 7): [call(READ, 6, value[200], value[9])]}),
-    ("a thread number by a function that gives nothing", "P16", 7, {(FUNCTION, 7): [call(READ, 6, value[93], value[0])]}),
+    ("a thread number by a function that gives nothing", "P16", 7, {(FUNCTION, 7): [call(READ, 6, value[95], value[0])]}),
     ("the barrier mode 0", "P17", 7, {(FUNCTION, 7): [call(READ, 6, value[80], value[0])]}),
     ("an undefined row id", "P17", 1, {(FUNCTION, 1): [call(HANDLE, 2, value[57], ONE, UNDEF, value[0], FALSE)]}),
     ("a mask of no part", "P17", 19, {(FUNCTION, 19): [call(JOINED + 1, 4, value[69], HANDLE, THREAD, UNDEF, JOINED, UNDEF, UNDEF, UNDEF, ZERO)]}),

@@ -101,9 +101,7 @@ fn container_of(alloc: Global, count: u64) -> Result<Vec<u8>, AllocError>
 }
 
 #[test]
-fn the_limit_of_resources_is_told_at_the_call_that_passes_it(
-    rt: HostRuntime,
-) -> Result<(), Fail> {
+fn the_limit_of_resources_is_told_at_the_call_that_passes_it(rt: HostRuntime) -> Result<(), Fail> {
     let met = Fault::Refused {
         rule: Rule::NotYet,
         bit: 185_686,
@@ -117,7 +115,11 @@ fn the_limit_of_resources_is_told_at_the_call_that_passes_it(
         if bytes.len() > 100_000 {
             return Err(Fail::from("too long"));
         }
-        assert_eq!(rt; translate(rt.alloc(), bytes.as_slice()).err(), Some(wanted), "{count}");
+        assert_eq!(rt;
+            translate(rt.alloc(), bytes.as_slice()).err(),
+            Some(wanted),
+            "{count}"
+        );
     }
     Ok(())
 }

@@ -7,7 +7,8 @@ ghost use Rattle.profile_tables.specs.Read.{IsRead};
 use crate::writer::{Row, Tables, container_of};
 use dx_file::read_file;
 use dxil_form::{
-    Addr, BinOp, Block, Class, CmpOp, Entry, IdOp, Instr, Kind, Operand, Program, Reg, Resource, Scope, Target, Term, Ty,
+    Addr, BinOp, Block, Class, CmpOp, Entry, IdOp, Instr, Kind, Operand, Program, Reg, Resource,
+    Scope, Target, Term, Ty,
 };
 use dxil_profile::profile;
 use entry_read::entry_is_read;
@@ -56,7 +57,7 @@ const CONSTANTS: [Row<'static>; 19] = [
     (4, &[114]),
     (4, &[136]),
     (4, &[138]),
-    (4, &[186]),
+    (4, &[190]),
     (4, &[160]),
     (4, &[18]),
     (4, &[22]),
@@ -86,19 +87,55 @@ const METADATA: [Row<'static>; 21] = [
     (3, &[14]),
     (3, &[0, 15, 0, 0]),
     (3, &[5, 6, 0, 16, 11]),
-    (4, &[100, 120, 46, 115, 104, 97, 100, 101, 114, 77, 111, 100, 101, 108]),
+    (
+        4,
+        &[
+            100, 120, 46, 115, 104, 97, 100, 101, 114, 77, 111, 100, 101, 108,
+        ],
+    ),
     (10, &[3]),
-    (4, &[100, 120, 46, 101, 110, 116, 114, 121, 80, 111, 105, 110, 116, 115]),
+    (
+        4,
+        &[
+            100, 120, 46, 101, 110, 116, 114, 121, 80, 111, 105, 110, 116, 115,
+        ],
+    ),
     (10, &[16]),
 ];
 
 /// The names of the operations.
 const SYMBOLS: [Row<'static>; 5] = [
-    (1, &[2, 100, 120, 46, 111, 112, 46, 99, 114, 101, 97, 116, 101, 72, 97, 110, 100, 108, 101]),
-    (1, &[3, 100, 120, 46, 111, 112, 46, 98, 117, 102, 102, 101, 114, 76, 111, 97, 100]),
-    (1, &[4, 100, 120, 46, 111, 112, 46, 98, 117, 102, 102, 101, 114, 83, 116, 111, 114, 101]),
-    (1, &[5, 100, 120, 46, 111, 112, 46, 116, 104, 114, 101, 97, 100, 73, 100, 73, 110, 71, 114, 111, 117, 112]),
-    (1, &[6, 100, 120, 46, 111, 112, 46, 98, 97, 114, 114, 105, 101, 114]),
+    (
+        1,
+        &[
+            2, 100, 120, 46, 111, 112, 46, 99, 114, 101, 97, 116, 101, 72, 97, 110, 100, 108, 101,
+        ],
+    ),
+    (
+        1,
+        &[
+            3, 100, 120, 46, 111, 112, 46, 98, 117, 102, 102, 101, 114, 76, 111, 97, 100,
+        ],
+    ),
+    (
+        1,
+        &[
+            4, 100, 120, 46, 111, 112, 46, 98, 117, 102, 102, 101, 114, 83, 116, 111, 114, 101,
+        ],
+    ),
+    (
+        1,
+        &[
+            5, 100, 120, 46, 111, 112, 46, 116, 104, 114, 101, 97, 100, 73, 100, 73, 110, 71, 114,
+            111, 117, 112,
+        ],
+    ),
+    (
+        1,
+        &[
+            6, 100, 120, 46, 111, 112, 46, 98, 97, 114, 114, 105, 101, 114,
+        ],
+    ),
 ];
 
 /// The body of seven blocks.
@@ -284,9 +321,7 @@ fn first() -> [Instr; 8] {
 }
 
 fn second() -> [Instr; 1] {
-    [
-        compare(REACHES, CmpOp::UGe, number(THREAD), number(STEP)),
-    ]
+    [compare(REACHES, CmpOp::UGe, number(THREAD), number(STEP))]
 }
 
 fn third() -> [Instr; 3] {
@@ -350,6 +385,11 @@ fn phi_is(block: &Block, value: u32, entries: &[Entry]) -> bool {
     }
 }
 
+/// Whether the instructions of a block are these.
+fn has(block: &Block, instrs: &[Instr]) -> bool {
+    block.instrs.as_slice() == instrs
+}
+
 fn entry(from: u32, value: Operand) -> Entry {
     Entry { from, value }
 }
@@ -405,24 +445,46 @@ fn a_loop_is_read_to_its_program(rt: HostRuntime) -> Result<(), Fail> {
         lower: 0,
         kind: Kind::Raw,
     };
-    assert_eq!(rt; program.resources.as_slice(), &[buffer]);
-    assert_eq!(rt; program.shared.as_slice(), &[64]);
+    let buffers = [buffer];
+    assert_eq!(rt; program.resources.as_slice(), buffers.as_slice());
+    let words = [64u32];
+    assert_eq!(rt; program.shared.as_slice(), words.as_slice());
     let [a, b, c, d, e, f, g] = program.blocks.as_slice() else {
         return Err(Fail::from("not seven blocks"));
     };
-    assert_eq!(rt; a.instrs.as_slice(), &first());
-    assert_eq!(rt; b.instrs.as_slice(), &second());
-    assert_eq!(rt; c.instrs.as_slice(), &third());
-    assert_eq!(rt; d.instrs.as_slice(), &[BARRIER]);
-    assert_eq!(rt; e.instrs.as_slice(), &fifth());
-    assert_eq!(rt; f.instrs.as_slice(), &sixth());
-    assert_eq!(rt; g.instrs.as_slice(), &seventh());
-    assert!(rt; phi_is(b, STEP, &[entry(0, Operand::Int(1)), entry(5, number(NEXT))]));
-    assert!(rt; phi_is(d, ADDED, &[entry(1, Operand::Int(0)), entry(2, number(READ))]));
+    assert!(rt; has(a, &first()));
+    assert!(rt; has(b, &second()));
+    assert!(rt; has(c, &third()));
+    assert!(rt; has(d, &[BARRIER]));
+    assert!(rt; has(e, &fifth()));
+    assert!(rt; has(f, &sixth()));
+    assert!(rt; has(g, &seventh()));
+    assert!(rt;
+        phi_is(
+            b,
+            STEP,
+            &[entry(0, Operand::Int(1)), entry(5, number(NEXT))]
+        )
+    );
+    assert!(rt;
+        phi_is(
+            d,
+            ADDED,
+            &[entry(1, Operand::Int(0)), entry(2, number(READ))]
+        )
+    );
     for block in [a, c, e, f, g] {
         assert_eq!(rt; block.phis.len(), 0);
     }
-    let ends = [end_of(&a.term), end_of(&b.term), end_of(&c.term), end_of(&d.term), end_of(&e.term), end_of(&f.term), end_of(&g.term)];
+    let ends = [
+        end_of(&a.term),
+        end_of(&b.term),
+        end_of(&c.term),
+        end_of(&d.term),
+        end_of(&e.term),
+        end_of(&f.term),
+        end_of(&g.term),
+    ];
     let wanted = [
         End::Go(1),
         End::If(truth(REACHES), 2, 3),

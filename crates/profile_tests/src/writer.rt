@@ -85,7 +85,13 @@ impl Bits {
     }
 
     /// Adds a block.
-    pub(crate) fn block(&mut self, outer: u32, id: u64, width: u32, content: Bits) -> Result<(), AllocError>
+    pub(crate) fn block(
+        &mut self,
+        outer: u32,
+        id: u64,
+        width: u32,
+        content: Bits,
+    ) -> Result<(), AllocError>
         requires outer { outer ≤ 32 }
         requires width { width ≤ 32 }
     {
@@ -140,7 +146,12 @@ fn push_row(
 }
 
 /// The content of a block.
-pub(crate) fn content(alloc: Global, id: u64, rows: &[Row], changes: &[Change]) -> Result<Bits, AllocError> {
+pub(crate) fn content(
+    alloc: Global,
+    id: u64,
+    rows: &[Row],
+    changes: &[Change],
+) -> Result<Bits, AllocError> {
     let mut bits = Bits::new(alloc);
     for (place, row) in rows.iter().enumerate() {
         push_row(&mut bits, 4, id, place, *row, changes)?;
@@ -192,7 +203,11 @@ fn bitcode(alloc: Global, tables: &Tables, changes: &[Change]) -> Result<Bits, A
 }
 
 /// The container of a shader with some changes.
-pub fn container_of(alloc: Global, tables: &Tables, changes: &[Change]) -> Result<Vec<u8>, AllocError> {
+pub fn container_of(
+    alloc: Global,
+    tables: &Tables,
+    changes: &[Change],
+) -> Result<Vec<u8>, AllocError> {
     file(alloc, &bitcode(alloc, tables, changes)?)
 }
 
