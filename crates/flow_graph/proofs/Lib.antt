@@ -6,6 +6,7 @@ pub mod Steps
 pub mod Edges
 pub mod Rewritten
 pub mod Marking
+pub mod Sources
 pub mod Walking
 pub mod Backwards
 pub mod Choice

@@ -29,7 +29,7 @@ has_push (x ∷ xs) y k t = elim (or_cases (eqb k x) (has k (xs ++ y ∷ [])) t)
   | inr h ↦ elim (has_push xs y k h) [ inl i ↦ inl (or_right (eqb k x) (has k xs) i) | inr q ↦ inr q ]
 ]
 
-push_has : (xs : List ℕ) (y k : ℕ) → (has k xs ≡ true) ⊎ (k ≡ y) → has k (xs ++ y ∷ []) ≡ true
+pub push_has : (xs : List ℕ) (y k : ℕ) → (has k xs ≡ true) ⊎ (k ≡ y) → has k (xs ++ y ∷ []) ≡ true
 push_has [] y k (inl t) = absurd (false≢true t)
 push_has [] y k (inr q) = or_left (eqb k y) false (eq-eqb k y q)
 push_has (x ∷ xs) y k (inl t) = elim (or_cases (eqb k x) (has k xs) t) [

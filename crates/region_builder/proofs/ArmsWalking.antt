@@ -1,17 +1,16 @@
 -- Arms keep what the roots pass.
-use Rattle.std.proofs.Common.{◌≡◌, ◌≢◌, ◌⊎◌, ◌↔◌, inl, inr, ℕ, ◌<◌, ◌≤◌, Bool, true, false, not, eqb, ◌||◌, List, [], ◌∷◌, ◌++◌, length, get_or, set, Option, Some, None, refl, sym, ap, subst, ◌∙◌, arith, eq-eqb, ne_eqb}
-use Rattle.std.proofs.lemmas.Bool.{cases_Bool, cases_eq, both_ways, false_from_ne_true}
-use Rattle.std.proofs.lemmas.Option.{same_Some, slice_get-get_or}
+use Rattle.std.proofs.Common.{◌≡◌, ◌⊎◌, ◌↔◌, inl, inr, ℕ, Bool, true, false, ◌||◌, List, [], ◌∷◌, ◌++◌, length, get_or, set, Some, refl, sym, ap, subst, ◌∙◌}
+use Rattle.std.proofs.lemmas.Bool.{both_ways, false_from_ne_true}
 use Rattle.std.specs.List.{slice_get, Contains}
 use Rattle.dxil_form.specs.declared.program.Program.{Program}
 use Rattle.dxil_form.specs.declared.region.Region.{Region}
-use Rattle.dxil_form.specs.declared.region.Region.TheVariants.{Leaf, Arms}
-use Rattle.dxil_form.specs.Graphs.{Graph, SolePred}
+use Rattle.dxil_form.specs.declared.region.Region.TheVariants.{Leaf, Loop, Arms}
+use Rattle.dxil_form.specs.Graphs.{Graph}
 use Rattle.dxil_form.specs.Branches.{has}
 use Rattle.dxil_form.specs.Walks.{Goes}
 use Rattle.dxil_form.specs.Walks.Goes.{arms_leave, arms_go_on}
 use Rattle.region_laws.specs.Paths.{PassesUpTo}
-use Rattle.region_laws.proofs.Places.{last, has_get}
+use Rattle.region_laws.proofs.Places.{last, cases_last, has_get}
 use Rattle.region_laws.specs.Standing.{less, Stands}
 use Rattle.region_laws.proofs.Standing.{exact, going_stands}
 use Rattle.region_laws.proofs.Going.{arms_lead, armed, arm_told, told_arm}
@@ -20,8 +19,8 @@ use Rattle.region_builder.specs.Built.{Built}
 use Rattle.region_builder.specs.Absorbing.{AreChildren, AreAbsorbed, arms_of}
 use Rattle.region_builder.proofs.Growing.{Rewritten}
 use Rattle.region_builder.proofs.Steps.{one_node}
-use Rattle.region_builder.proofs.Absorbing.{has_place, place_has, not_child}
-use Rattle.region_builder.proofs.Branching.{arm_of, arm_at, child_live, child_pred, rewritten}
+use Rattle.region_builder.proofs.Absorbing.{has_place, place_has}
+use Rattle.region_builder.proofs.Branching.{arm_of, arm_at, child_live, rewritten}
 use Rattle.region_builder.proofs.Walking.{carried, Wants, all_tell, left_is, other_stands, placed, wanting, up_goes, up_stands, down_no_walk}
 
 module _ (p : Program) (list : List Region) (blocks places : List ℕ) (g : Graph) (b : Built p list blocks places g) (w : Walked p list blocks places g)
@@ -144,7 +143,11 @@ module _ (p : Program) (list : List Region) (blocks places : List ℕ) (g : Grap
           (u ++ v, arms_go_on here k (arm_for n j m) h)
 
   pub branch_walked : Walked p whole blocks (set places a (length list)) now
-  branch_walked = record { stands = branch_stands; goes = branch_goes }
+  branch_walked = record {
+    stands = branch_stands;
+    goes = branch_goes;
+    rings = λ r body head h. elim (cases_last list x r (Loop body head) h) [ inl o ↦ w.rings r body head o | inr (_, o) ↦ absurd (cc) ];
+  }
 
   pub branch_walks : (region : Region) → region ≡ x → (l : List Region) (bs ps : List ℕ) → l ≡ list ++ region ∷ [] → bs ≡ blocks → ps ≡ set places a (length list) → Walked p l bs ps now
   branch_walks region is l bs ps u y z =

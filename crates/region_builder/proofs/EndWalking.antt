@@ -1,10 +1,10 @@
 -- What the roots pass at the start, and at the end.
-use Rattle.std.proofs.Common.{◌≡◌, ◌≢◌, ◌⊎◌, ◌↔◌, inl, inr, ℕ, ◌+◌, ◌<◌, ◌≤◌, Bool, true, false, List, [], ◌∷◌, length, get_or, map, Option, Some, None, refl, sym, ap, subst, ◌∙◌, arith}
+use Rattle.std.proofs.Common.{◌≡◌, ℕ, ◌+◌, ◌<◌, Bool, true, List, [], ◌∷◌, length, get_or, Some, sym, ap, subst, ◌∙◌, arith}
 use Rattle.std.proofs.lemmas.Option.{get_or_from_slice_get, slice_get_within, slice_get-get_or}
 use Rattle.std.specs.List.{slice_get}
 use Rattle.dxil_form.specs.declared.program.Program.{Program}
 use Rattle.dxil_form.specs.declared.region.Region.{Region}
-use Rattle.dxil_form.specs.declared.region.Region.TheVariants.{Leaf}
+use Rattle.dxil_form.specs.declared.region.Region.TheVariants.{Leaf, Loop}
 use Rattle.dxil_form.specs.Graphs.{Graph}
 use Rattle.dxil_form.specs.Branches.{branches}
 use Rattle.dxil_form.specs.Sound.{Sound}
@@ -13,10 +13,10 @@ use Rattle.dxil_form.specs.Walks.Goes.{leaf_wants}
 use Rattle.region_laws.specs.Roots.{HasRoot}
 use Rattle.region_laws.specs.Paths.{PassesUpTo, RootsPass, enters_root, enters_other}
 use Rattle.region_laws.proofs.Runs.{has_entry, entry_has}
-use Rattle.region_laws.specs.Standing.{less, Stands}
+use Rattle.region_laws.specs.Standing.{Stands}
 use Rattle.region_laws.proofs.Standing.{exact, from_stopping}
 use Rattle.region_leaves.specs.Leaves.{AreReachable, leaves_of, placed_from}
-use Rattle.region_leaves.proofs.Placing.{at_placed, placed_at, at_leaf}
+use Rattle.region_leaves.proofs.Placing.{at_placed, placed_at, at_leaf, leaf_at}
 use Rattle.region_leaves.proofs.Rooted.{leaf_passes_up}
 use Rattle.region_builder.specs.Started.{IsNodeGraph, WalksAlongEdges}
 use Rattle.region_builder.specs.Walked.{TellsEntries, Walked}
@@ -58,7 +58,11 @@ module _ (p : Program) (sound : Sound p) (blocks : List ℕ) (are : AreReachable
       (c ∷ [], leaf_wants leaf (subst Q (sym (get_or_from_slice_get blocks j k 0 y)) t))
 
   pub start_walked : Walked p (leaves_of blocks) blocks places g
-  start_walked = record { stands = start_stands; goes = start_goes }
+  start_walked = record {
+    stands = start_stands;
+    goes = start_goes;
+    rings = λ r body head h. (let (c, _, q) = leaf_at blocks r (Loop body head) h in absurd (cc));
+  }
 
 module _ (p : Program) (list : List Region) (blocks places : List ℕ) (g : Graph) (b : Built p list blocks places g) (w : Walked p list blocks places g)
     (settled : AllSettled g) (roots : List (ℕ × ℕ)) (are : AreRoots g (length blocks) blocks places roots) where

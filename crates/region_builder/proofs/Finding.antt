@@ -1,18 +1,19 @@
 -- Several steps are one way, and the lists of children.
-use Rattle.std.proofs.Common.{◌≡◌, ◌≢◌, ◌⊎◌, inl, inr, ℕ, suc, ◌+◌, ◌<◌, ◌≤◌, Bool, true, false, not, eqb, ne_eqb, ◌||◌, List, [], ◌∷◌, ◌++◌, length, Some, refl, sym, ap, subst, ◌∙◌, arith}
+use Rattle.std.proofs.Common.{◌≡◌, ◌≢◌, ◌⊎◌, inl, inr, ℕ, ◌+◌, ◌<◌, ◌≤◌, Bool, true, false, not, eqb, ne_eqb, ◌||◌, List, [], ◌∷◌, ◌++◌, length, Some, refl, sym, ap, subst, ◌∙◌, arith}
 use Rattle.std.proofs.lemmas.Bool.{both_ways, cases_eq, cases_order, false≢true, and_from, not_from_false}
 use Rattle.std.proofs.lemmas.Option.{none-some, slice_get_within}
 use Rattle.std.specs.List.{slice_get}
 use Rattle.dxil_form.specs.Graphs.{Graph, SolePred, absorbed}
 use Rattle.flow_graph.specs.Shapes.{plain}
 use Rattle.region_laws.proofs.Places.{cases_last}
-use Rattle.region_builder.specs.Built.{BuiltBy, IsBuilt, Keeps, SameRings, Went, AllSettled, size}
+use Rattle.region_builder.specs.Built.{IsBuilt, Keeps, SameRings, Went, AllSettled, size}
 use Rattle.head_table.specs.declared.table.HeadTable.{HeadTable}
 use Rattle.head_table.specs.Table.{over}
 use Rattle.region_builder.specs.Settled.{IsAllowed, MayRepeat, IsSettledBy, AllSettledBy}
 use Rattle.region_builder.specs.Absorbing.{AreChildren}
 use Rattle.region_builder.specs.Children.{AreChildrenBelow}
 use Rattle.region_builder.specs.declared.builder.Builder.{Builder}
+use Rattle.region_builder.proofs.Absorbing.{push_has}
 use Rattle.region_builder.proofs.Sizes.{work}
 
 pub kept_built : (old new : Builder) → Keeps old new → IsBuilt old → IsBuilt new
@@ -25,6 +26,9 @@ went_nowhere b = record {
   smaller = λ t. absurd (false≢true t);
   same = λ f. refl;
   told = λ f. refl;
+  list = λ f. refl;
+  places = λ f. refl;
+  ranks = refl;
   fewer = λ h b z. z;
 }
 
@@ -41,6 +45,9 @@ went_on a b c d e x y = record {
   smaller = λ t. less d e x y t;
   same = λ f. alike d e x y f;
   told = λ f. unmoved d e x y f;
+  list = λ f. listed d e x y f;
+  places = λ f. placed d e x y f;
+  ranks = y.ranks ∙ x.ranks;
   fewer = λ h k z. y.fewer h k (x.fewer h k z);
 }
   where
@@ -54,6 +61,16 @@ went_on a b c d e x y = record {
     alike false false x y f = y.same refl ∙ x.same refl
     alike false true x y f = absurd (false≢true (sym f))
     alike true e x y f = absurd (false≢true (sym f))
+
+    listed : (d e : Bool) → Went a b d → Went b c e → (d || e) ≡ false → c.list ≡ a.list
+    listed false false x y f = y.list refl ∙ x.list refl
+    listed false true x y f = absurd (false≢true (sym f))
+    listed true e x y f = absurd (false≢true (sym f))
+
+    placed : (d e : Bool) → Went a b d → Went b c e → (d || e) ≡ false → c.places.items ≡ a.places.items
+    placed false false x y f = y.places refl ∙ x.places refl
+    placed false true x y f = absurd (false≢true (sym f))
+    placed true e x y f = absurd (false≢true (sym f))
 
     unmoved : (d e : Bool) → Went a b d → Went b c e → (d || e) ≡ false → c.heads ≡ a.heads
     unmoved false false x y f = y.told refl ∙ x.told refl
@@ -73,16 +90,25 @@ no_children b a = record {
   sole = λ m j h. absurd (none-some j h);
   own = λ m j h. absurd (none-some j h);
   allowed = λ m j h. absurd (none-some j h);
+  all = λ j n l p f w. absurd (omega arith);
   nonzero = λ m j h. absurd (none-some j h);
   below = λ m j h. absurd (none-some j h);
   rising = λ l m i j o h k. absurd (none-some i h);
 }
 
-pub children_on : (b : Builder) (a n : ℕ) (nodes : List ℕ) → AreChildrenBelow b a n nodes → AreChildrenBelow b a (n + 1) nodes
-children_on b a n nodes c = record {
+pub children_on : (b : Builder) (a n : ℕ) (nodes : List ℕ) → AreChildrenBelow b a n nodes → (SolePred (plain b.graph) a n → slice_get b.firsts.items n ≡ Some (Some a) → IsAllowed (over b.heads) a n → ⊥)
+    → AreChildrenBelow b a (n + 1) nodes
+children_on b a n nodes c none = record {
   sole = c.sole;
   own = c.own;
   allowed = c.allowed;
+  all = λ j o l p f w. elim (cases_eq j n) [
+    | inl q ↦ (
+        let P : ℕ → Type 0 = λ z. SolePred (plain b.graph) a z in
+        let Q : ℕ → Type 0 = λ z. slice_get b.firsts.items z ≡ Some (Some a) in
+        let R : ℕ → Type 0 = λ z. IsAllowed (over b.heads) a z in absurd (none (subst P q p) (subst Q q f) (subst R q w)))
+    | inr m ↦ c.all j o (omega arith) p f w
+  ];
   nonzero = c.nonzero;
   below = λ m j h. (let l = c.below m j h in omega arith);
   rising = c.rising;
@@ -94,6 +120,7 @@ child_on b a n nodes c l p f w = record {
   sole = λ m j h. elim (cases_last nodes n m j h) [ inl k ↦ c.sole m j k | inr (_, q) ↦ (let P : ℕ → Type 0 = λ y. SolePred (plain b.graph) a y in subst P q p) ];
   own = λ m j h. elim (cases_last nodes n m j h) [ inl k ↦ c.own m j k | inr (_, q) ↦ (let P : ℕ → Type 0 = λ y. slice_get b.firsts.items y ≡ Some (Some a) in subst P q f) ];
   allowed = λ m j h. elim (cases_last nodes n m j h) [ inl k ↦ c.allowed m j k | inr (_, q) ↦ (let P : ℕ → Type 0 = λ y. IsAllowed (over b.heads) a y in subst P q w) ];
+  all = λ j o k x y z. elim (cases_eq j n) [ inl q ↦ push_has nodes n j (inr q) | inr m ↦ push_has nodes n j (inl (c.all j o (omega arith) x y z)) ];
   nonzero = λ m j h. elim (cases_last nodes n m j h) [ inl k ↦ c.nonzero m j k | inr (_, q) ↦ (λ z. omega arith) ];
   below = λ m j h. elim (cases_last nodes n m j h) [ inl k ↦ (let b = c.below m j k in omega arith) | inr (_, q) ↦ omega arith ];
   rising = rising;
@@ -121,13 +148,16 @@ as_children b a n nodes c l = record { some = l; nonzero = c.nonzero; sole = c.s
       | inr (inr o) ↦ (let r = c.rising y x j j o k h in absurd (omega arith))
     ]
 
-pub went_by : (old new : Builder) → Keeps old new → SameRings old.graph new.graph → size new.graph < size old.graph → new.heads ≡ old.heads → Went old new true
-went_by old new k r s e = record {
+pub went_by : (old new : Builder) → Keeps old new → SameRings old.graph new.graph → size new.graph < size old.graph → new.heads ≡ old.heads → new.ranks.items ≡ old.ranks.items → Went old new true
+went_by old new k r s e q = record {
   keeps = k;
   rings = r;
   smaller = λ t. s;
   same = λ f. absurd (false≢true (sym f));
   told = λ f. absurd (false≢true (sym f));
+  list = λ f. absurd (false≢true (sym f));
+  places = λ f. absurd (false≢true (sym f));
+  ranks = q;
   fewer = λ h b z. ap (λ (t : HeadTable). over t h b) e ∙ z;
 }
 
@@ -151,20 +181,12 @@ or_false false false q = (refl, refl)
 or_false false true q = absurd (false≢true (sym q))
 or_false true e q = absurd (false≢true (sym q))
 
--- all nodes from n on are settled, where nothing was done
-abbrev pub SettledFrom : HeadTable → Graph → ℕ → ℕ → Type 0
-SettledFrom t g count n = (a : ℕ) → a < count → n ≤ a → g.live a ≡ true → IsSettledBy (over t) g a
-
-pub settled_step : (old mid : Builder) (d : Bool) (count n : ℕ) → Went old mid d → d ≡ false → SettledFrom old.heads (plain old.graph) count (suc n)
-    → ((plain mid.graph).live n ≡ true → IsSettledBy (over mid.heads) (plain mid.graph) n) → SettledFrom old.heads (plain old.graph) count n
-settled_step old mid d count n w f before here a l m live = elim (cases_eq n a) [
-  | inl q ↦ (
-      let P : Graph → Type 0 = λ g. g.live n ≡ true → IsSettledBy (over mid.heads) g n in
-      let R : HeadTable → Type 0 = λ t. (plain old.graph).live n ≡ true → IsSettledBy (over t) (plain old.graph) n in
-      let Q : ℕ → Type 0 = λ z. (plain old.graph).live z ≡ true → IsSettledBy (over old.heads) (plain old.graph) z in
-      subst Q q (subst R (w.told f) (subst P (w.same f) here)) live)
-  | inr o ↦ before a l (omega arith) live
-]
+-- what is settled where nothing was done before stays settled
+pub settled_went : (old mid : Builder) → Went old mid false → (a : ℕ) → ((plain mid.graph).live a ≡ true → IsSettledBy (over mid.heads) (plain mid.graph) a) → (plain old.graph).live a ≡ true
+    → IsSettledBy (over old.heads) (plain old.graph) a
+settled_went old mid w a here live =
+    let P : Graph → Type 0 = λ g. g.live a ≡ true → IsSettledBy (over mid.heads) g a in
+    let R : HeadTable → Type 0 = λ t. (plain old.graph).live a ≡ true → IsSettledBy (over t) (plain old.graph) a in subst R (w.told refl) (subst P (w.same refl) here) live
 
 -- without heads nothing may be done at all
 pub settled_plain : (t : HeadTable) (g : Graph) → ((h b : ℕ) → over t h b ≡ false) → AllSettledBy (over t) g → AllSettled g

@@ -1,26 +1,25 @@
 -- Where nothing may be done any more, each head of a graph without crossed rings has its loop.
-use Rattle.std.proofs.Common.{◌≡◌, ◌≢◌, ◌⊎◌, ◌↔◌, inl, inr, ℕ, ◌+◌, ◌<◌, ◌≤◌, Bool, true, false, ◌&&◌, List, length, get_or, map, Option, Some, refl, sym, ap, subst, ◌∙◌, arith}
-use Rattle.std.proofs.lemmas.Bool.{cases_eq, cases_order, both_ways, and_parts, and_from}
-use Rattle.std.proofs.lemmas.Option.{same_Some, slice_get_within, slice_get-get_or, get_or_from_slice_get}
-use Rattle.std.specs.List.{slice_get, Contains}
+use Rattle.std.proofs.Common.{◌≡◌, ◌↔◌, inl, inr, ℕ, ◌<◌, Bool, true, false, ◌&&◌, List, length, get_or, Option, Some, sym, ap, subst, ◌∙◌}
+use Rattle.std.proofs.lemmas.Bool.{cases_eq, both_ways, and_parts, and_from}
+use Rattle.std.proofs.lemmas.Option.{slice_get_within, slice_get-get_or, get_or_from_slice_get}
+use Rattle.std.specs.List.{slice_get}
 use Rattle.dxil_form.specs.declared.program.Program.{Program}
 use Rattle.dxil_form.specs.declared.region.Region.{Region}
-use Rattle.dxil_form.specs.declared.region.Region.TheVariants.{Leaf, Loop, Arms}
+use Rattle.dxil_form.specs.declared.region.Region.TheVariants.{Leaf}
 use Rattle.dxil_form.specs.Graphs.{Graph, Crossed, SolePred, IsHeadOver}
-use Rattle.graph_laws.specs.Laws.{Step, MayFold, MayAbsorb}
+use Rattle.graph_laws.specs.Laws.{Step}
 use Rattle.graph_laws.proofs.Heads.{Loops}
 use Rattle.graph_laws.proofs.Public.{step_or_crossed, over_loops}
 use Rattle.flow_graph.specs.Shapes.{plain}
 use Rattle.head_table.specs.declared.table.HeadTable.{HeadTable}
 use Rattle.head_table.specs.Table.{over}
 use Rattle.region_laws.proofs.Places.{same_place}
-use Rattle.region_leaves.specs.Leaves.{AreReachable}
 use Rattle.region_leaves.proofs.Rooted.{index_of}
 use Rattle.region_builder.specs.declared.partial.Partial.{Partial}
 use Rattle.region_builder.specs.Built.{Built}
 use Rattle.region_builder.specs.Settled.{AllSettledBy}
 use Rattle.region_builder.specs.Loops.{Under, LoopsAreRings, ArmsAreSole}
-use Rattle.region_builder.specs.Headed.{IsLoopOf, Headed}
+use Rattle.region_builder.specs.Headed.{Headed}
 use Rattle.region_builder.specs.Traced.{Traced}
 use Rattle.region_builder.proofs.Leaving.{one_block}
 

@@ -1,6 +1,6 @@
 -- Leaves and roots for all blocks, and the heads of their graph.
-use Rattle.std.proofs.Common.{◌≡◌, ◌≢◌, ◌↔◌, inl, inr, ℕ, ◌<◌, Bool, true, List, length, get_or, map, Option, Some, refl, sym, ap, subst, ◌∙◌}
-use Rattle.std.proofs.lemmas.Option.{none-some, slice_get_within, slice_get-get_or}
+use Rattle.std.proofs.Common.{◌≡◌, inr, ℕ, ◌<◌, Bool, true, List, length, get_or, map, Option, Some, sym, ap, subst, ◌∙◌}
+use Rattle.std.proofs.lemmas.Option.{none-some, slice_get-get_or}
 use Rattle.std.specs.List.{slice_get}
 use Rattle.dxil_form.specs.declared.program.Program.{Program}
 use Rattle.dxil_form.specs.declared.region.Region.{Region}
@@ -22,7 +22,7 @@ use Rattle.region_builder.specs.Traced.{Traced}
 use Rattle.region_builder.proofs.Leaving.{one_block}
 use Rattle.region_builder.proofs.Heading.{passed_live}
 
-only_leaves : (bs : List ℕ) (r : ℕ) (x : Region) → slice_get (leaves_of bs) r ≡ Some x → (k : ℕ) × (x ≡ Leaf k) × (slice_get bs r ≡ Some k)
+pub only_leaves : (bs : List ℕ) (r : ℕ) (x : Region) → slice_get (leaves_of bs) r ≡ Some x → (k : ℕ) × (x ≡ Leaf k) × (slice_get bs r ≡ Some k)
 only_leaves bs r x h = let (b, e, q) = leaf_at bs r x h in (b, sym q, e)
 
 no_part : (bs : List ℕ) (r i s : ℕ) → IsPart (leaves_of bs) r i s → ⊥

@@ -1,5 +1,5 @@
 -- The heads and their loops under one region more.
-use Rattle.std.proofs.Common.{◌≡◌, ◌≢◌, ◌⊎◌, ◌↔◌, inl, inr, ℕ, ◌+◌, ◌<◌, ◌≤◌, Bool, true, false, List, [], ◌∷◌, ◌++◌, length, get_or, set, Some, refl, sym, subst, arith}
+use Rattle.std.proofs.Common.{◌≡◌, ◌⊎◌, ◌↔◌, inl, inr, ℕ, ◌<◌, Bool, true, false, List, [], ◌∷◌, ◌++◌, length, get_or, set, Some, refl, sym, subst, arith}
 use Rattle.std.proofs.lemmas.Bool.{cases_eq, cases_Bool}
 use Rattle.std.proofs.lemmas.List.{get_or-set_same, get_or-set_other}
 use Rattle.std.proofs.lemmas.Option.{slice_get_within}
@@ -8,9 +8,9 @@ use Rattle.dxil_form.specs.declared.program.Program.{Program}
 use Rattle.dxil_form.specs.declared.region.Region.{Region}
 use Rattle.dxil_form.specs.declared.region.Region.TheVariants.{Leaf, Loop}
 use Rattle.dxil_form.specs.Graphs.{Graph, IsFormed, IsHeadOver}
-use Rattle.dxil_form.specs.Wired.{IsPart, parts}
+use Rattle.dxil_form.specs.Wired.{parts}
 use Rattle.graph_laws.proofs.Paths.{path_next}
-use Rattle.region_laws.proofs.Places.{front, last, cases_last, inside}
+use Rattle.region_laws.proofs.Places.{front, cases_last, inside}
 use Rattle.region_builder.specs.Built.{Built}
 use Rattle.region_builder.specs.Loops.{Under}
 use Rattle.region_builder.specs.Loops.Under.{is_leaf, in_part}

@@ -1,11 +1,11 @@
 -- The roots that are left.
-use Rattle.std.proofs.Common.{◌≡◌, ◌≢◌, ◌⊎◌, ◌↔◌, inl, inr, ℕ, ◌+◌, ◌<◌, Bool, true, false, cond, List, [], ◌∷◌, ◌++◌, length, get_or, Option, Some, refl, sym, ap, subst, ◌∙◌, arith}
+use Rattle.std.proofs.Common.{◌≡◌, ◌≢◌, ◌⊎◌, ◌↔◌, inl, inr, ℕ, ◌+◌, ◌<◌, Bool, true, false, cond, List, [], ◌∷◌, ◌++◌, length, get_or, Option, Some, None, length-append, refl, sym, ap, subst, ◌∙◌, arith}
 use Rattle.std.proofs.lemmas.Bool.{cases_eq, cases_lt, cases_order, both_ways, false_from_ne_true, false≢true}
 use Rattle.std.proofs.lemmas.Option.{none-some, some_pair_parts, slice_get_within, slice_get-get_or, get_or_from_slice_get}
 use Rattle.std.specs.List.{slice_get}
 use Rattle.dxil_form.specs.declared.program.Program.{Program}
 use Rattle.dxil_form.specs.declared.region.Region.{Region}
-use Rattle.std.specs.Option.{IfSome}
+use Rattle.std.specs.Option.{IfSome, IfNone}
 use Rattle.dxil_form.specs.Graphs.{Graph, Crossed, In, Path, SolePred}
 use Rattle.dxil_form.specs.Sound.{Sound}
 use Rattle.dxil_form.specs.Walks.{EnteredBy}
@@ -82,15 +82,30 @@ root_on g n blocks places roots are false tells below =
 -- ---- the sole predecessors of nodes
 
 pub no_preds : (g : Graph) → AreSolePreds g []
-no_preds g i j h = absurd (none-some (Some i) h)
+no_preds g = record { sole = λ i j h. absurd (none-some (Some i) h); all = λ i j l p. absurd (omega arith) }
 
-pub preds_on : (g : Graph) (ps : List (Option ℕ)) (n : ℕ) (r : Option ℕ) → AreSolePreds g ps → length ps ≡ n → IfSome r (λ a. SolePred g a n) → AreSolePreds g (ps ++ r ∷ [])
-preds_on g ps n r are e told i j h = elim (cases_last ps r j (Some i) h) [
-  | inl k ↦ are i j k
-  | inr (q, o) ↦ (
-      let P : Option ℕ → Type 0 = λ z. IfSome z (λ a. SolePred g a n) in
-      let Q : ℕ → Type 0 = λ z. SolePred g i z in subst Q (sym (q ∙ e)) (subst P o told))
-]
+-- what a call tells of one node
+told_pred : (g : Graph) (n : ℕ) (r : Option ℕ) → IfSome r (λ a. SolePred g a n) → IfNone r ((a : ℕ) → SolePred g a n → ⊥) → (i : ℕ) → SolePred g i n → r ≡ Some i
+told_pred g n None some none i p = absurd (none i p)
+told_pred g n (Some a) some none i p = ap (λ (z : ℕ). Some z) (p.sole a some.edge)
+
+pub preds_on : (g : Graph) (ps : List (Option ℕ)) (n : ℕ) (r : Option ℕ) → AreSolePreds g ps → length ps ≡ n → IfSome r (λ a. SolePred g a n) → IfNone r ((a : ℕ) → SolePred g a n → ⊥) → AreSolePreds g (ps ++ r ∷ [])
+preds_on g ps n r are e some none = record {
+  sole = λ i j h. elim (cases_last ps r j (Some i) h) [
+    | inl k ↦ are.sole i j k
+    | inr (q, o) ↦ (
+        let P : Option ℕ → Type 0 = λ z. IfSome z (λ a. SolePred g a n) in
+        let Q : ℕ → Type 0 = λ z. SolePred g i z in subst Q (sym (q ∙ e)) (subst P o some))
+  ];
+  all = λ i j l p. (let m = length-append ps (r ∷ []) in elim (cases_lt j (length ps)) [
+    | inl k ↦ front ps (r ∷ []) j (Some i) (are.all i j k p)
+    | inr high ↦ (
+        let q : length ps ≡ j = omega arith in
+        let P : ℕ → Type 0 = λ z. slice_get (ps ++ r ∷ []) z ≡ Some r in
+        let Q : ℕ → Type 0 = λ z. SolePred g i z in
+        subst P q (last ps r) ∙ ap (λ (z : Option ℕ). Some z) (told_pred g n r some none i (subst Q (sym q ∙ e) p)))
+  ]);
+}
 
 -- a block stands at one place
 pub one_block : {p : Program} {blocks : List ℕ} → AreReachable p blocks → (i j : ℕ) → i < length blocks → j < length blocks → get_or blocks i 0 ≡ get_or blocks j 0 → i ≡ j
@@ -187,6 +202,7 @@ module _ (p : Program) (list : List Region) (blocks places : List ℕ) (g : Grap
           let q : j ≡ i = one_block b.reachable j i (inside j t) l (y ∙ sym e) in
           let P : ℕ → Type 0 = λ z. g.live z ≡ true in subst P q t),
     );
+    edges = λ i j e. (b.formed.from i j e, b.formed.to i j e);
   }
 
   pub roots_want : WantsAlongEdges p blocks list roots g

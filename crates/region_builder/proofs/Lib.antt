@@ -1,3 +1,4 @@
+pub mod Entries
 pub mod Growing
 pub mod Counting
 pub mod Steps
@@ -17,3 +18,7 @@ pub mod LoopHeading
 pub mod Tracing
 pub mod FirstHeads
 pub mod Finishing
+pub mod Bareness
+pub mod Visiting
+pub mod Renaming
+pub mod ByBlocks

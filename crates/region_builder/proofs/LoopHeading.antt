@@ -1,12 +1,12 @@
 -- A head gets its loop.
-use Rattle.std.proofs.Common.{◌≡◌, ◌≢◌, ◌⊎◌, ◌↔◌, inl, inr, ℕ, ◌+◌, ◌<◌, ◌≤◌, Bool, true, false, not, eqb, ◌&&◌, List, [], ◌∷◌, ◌++◌, length, get_or, set, Some, refl, sym, ap, subst, ◌∙◌, arith, eq-eqb, ne_eqb}
+use Rattle.std.proofs.Common.{◌≡◌, ◌≢◌, ◌⊎◌, ◌↔◌, inl, inr, ℕ, ◌<◌, Bool, true, false, not, eqb, ◌&&◌, List, [], ◌∷◌, ◌++◌, length, get_or, set, Some, refl, sym, subst, ◌∙◌, arith, ne_eqb}
 use Rattle.std.proofs.lemmas.Bool.{cases_eq, cases_order, both_ways, eqb-false, and_parts, and_from, not-true, not_from_false}
 use Rattle.std.proofs.lemmas.Option.{slice_get_within}
 use Rattle.std.specs.List.{slice_get}
 use Rattle.dxil_form.specs.declared.program.Program.{Program}
 use Rattle.dxil_form.specs.declared.region.Region.{Region}
-use Rattle.dxil_form.specs.declared.region.Region.TheVariants.{Leaf, Loop}
-use Rattle.dxil_form.specs.Graphs.{Graph, IsFormed, IsHeadOver, folded}
+use Rattle.dxil_form.specs.declared.region.Region.TheVariants.{Loop}
+use Rattle.dxil_form.specs.Graphs.{Graph, IsHeadOver, folded}
 use Rattle.graph_laws.specs.Laws.{MayFold}
 use Rattle.graph_laws.proofs.Public.{heads_by_walks, fold_heads, fold_ends}
 use Rattle.region_laws.proofs.Places.{front, last, cases_last}

@@ -23,7 +23,7 @@ use Rattle.region_leaves.proofs.Branching.{states_branches}
 use Rattle.region_leaves.proofs.Reaching.{reached_inside}
 use Rattle.region_leaves.proofs.Rooted.{leaves_wired, index_of, block_reached, branch_reached}
 use Rattle.region_builder.specs.Nodes.{AreNodes, node_edge}
-use Rattle.flow_graph.specs.Shapes.{Shape, plain}
+use Rattle.flow_graph.specs.Shapes.{plain}
 use Rattle.region_builder.specs.declared.partial.Partial.{Partial}
 use Rattle.region_builder.specs.Started.{IsNodeGraph, IsStarted}
 use Rattle.region_builder.proofs.Naming.{renamed_edges}

@@ -1,6 +1,6 @@
 -- Each step keeps what ties the regions to the graph at first.
-use Rattle.std.proofs.Common.{◌≡◌, ◌≢◌, ◌⊎◌, ◌↔◌, inl, inr, ℕ, ◌+◌, ◌<◌, ◌≤◌, Bool, true, false, not, eqb, ◌&&◌, List, [], ◌∷◌, ◌++◌, length, get_or, set, map, Option, Some, refl, sym, ap, subst, ◌∙◌, arith, eq-eqb}
-use Rattle.std.proofs.lemmas.Bool.{cases_eq, eqb-true, eqb-false, and_parts, and_from}
+use Rattle.std.proofs.Common.{◌≡◌, ◌≢◌, ◌↔◌, inl, inr, ℕ, Bool, true, false, not, eqb, ◌&&◌, List, [], ◌∷◌, ◌++◌, length, get_or, set, Option, Some, sym, subst, ◌∙◌}
+use Rattle.std.proofs.lemmas.Bool.{cases_eq, eqb-true, eqb-false}
 use Rattle.std.specs.List.{slice_get, Contains}
 use Rattle.dxil_form.specs.declared.program.Program.{Program}
 use Rattle.dxil_form.specs.declared.region.Region.{Region}
@@ -19,10 +19,11 @@ use Rattle.region_builder.specs.Built.{Built}
 use Rattle.region_builder.specs.Absorbing.{AreChildren, AreAbsorbed, arms_of}
 use Rattle.region_builder.specs.Headed.{Headed, ArmsFrom}
 use Rattle.region_builder.specs.Traced.{Traced}
+use Rattle.region_builder.specs.Bare.{Fixed}
 use Rattle.region_builder.proofs.Growing.{Fitting, Rewritten, Joining}
 use Rattle.region_builder.proofs.Steps.{join_rewritten, join_parts, join_fits}
-use Rattle.region_builder.proofs.Branching.{arm_of, child_pred, block_is, rewritten, branch_parts, branch_fits}
-use Rattle.region_builder.proofs.Absorbing.{has_place, place_has}
+use Rattle.region_builder.proofs.Branching.{arm_of, block_is, rewritten, branch_parts, branch_fits}
+use Rattle.region_builder.proofs.Absorbing.{has_place}
 use Rattle.region_builder.proofs.Heading.{headed_on}
 use Rattle.region_builder.proofs.LoopHeading.{headed_loop}
 
@@ -147,3 +148,9 @@ traced_left p first l m bs cs ps qs h k fs gs t u x y z w v s traced =
     let T : List (Option ℕ) → Type 0 = λ o. Traced p first m cs qs k o t in
     let U : HeadTable → Type 0 = λ o. Traced p first m cs qs k gs o in
     subst P (sym x) (subst Q (sym y) (subst R (sym z) (subst S (sym w) (subst T (sym v) (subst U (sym s) traced)))))
+
+pub fixed_left : (g : Graph) (bs cs : List ℕ) (fs gs : List (Option ℕ)) (rs qs : List ℕ) → bs ≡ cs → fs ≡ gs → rs ≡ qs → Fixed g (length cs) gs qs → Fixed g (length bs) fs rs
+fixed_left g bs cs fs gs rs qs x y z fixed =
+    let P : List ℕ → Type 0 = λ o. Fixed g (length o) fs rs in
+    let Q : List (Option ℕ) → Type 0 = λ o. Fixed g (length cs) o rs in
+    let R : List ℕ → Type 0 = λ o. Fixed g (length cs) gs o in subst P (sym x) (subst Q (sym y) (subst R (sym z) fixed))

@@ -1,25 +1,28 @@
 -- The steps keep what the roots pass.
-use Rattle.std.proofs.Common.{◌≡◌, ◌≢◌, ◌⊎◌, ◌↔◌, inl, inr, ℕ, zero, suc, ◌+◌, ◌<◌, ◌≤◌, Bool, true, false, not, eqb, ◌&&◌, ◌||◌, List, [], ◌∷◌, ◌++◌, length, get_or, set, Option, Some, None, refl, sym, ap, subst, ◌∙◌, arith, eq-eqb, ne_eqb}
+use Rattle.std.proofs.Common.{◌≡◌, ◌≢◌, ◌↔◌, inl, inr, ℕ, ◌<◌, Bool, true, false, eqb, ◌&&◌, ◌||◌, List, [], ◌∷◌, ◌++◌, length, get_or, set, Some, refl, sym, ap, subst, ◌∙◌, arith, eq-eqb, ne_eqb}
 use Rattle.std.proofs.Math.Path.{fun_ext}
-use Rattle.std.proofs.lemmas.Bool.{cases_Bool, cases_eq, both_ways, or_cases, or_left, or_right, and_parts, and_from, not-true, eqb-true, eqb-false, false_from_ne_true}
+use Rattle.std.proofs.lemmas.Bool.{cases_Bool, cases_eq, both_ways, or_cases, or_left, or_right, and_parts, and_from, not-true, eqb-true, false_from_ne_true}
 use Rattle.std.proofs.lemmas.Option.{same_Some}
 use Rattle.std.proofs.lemmas.List.{get_or-set_same, get_or-set_other}
-use Rattle.std.specs.List.{slice_get, Contains}
+use Rattle.std.specs.List.{slice_get}
 use Rattle.dxil_form.specs.declared.program.Program.{Program}
 use Rattle.dxil_form.specs.declared.region.Region.{Region}
-use Rattle.dxil_form.specs.declared.region.Region.TheVariants.{Leaf, Then, Loop, Arms}
+use Rattle.dxil_form.specs.declared.region.Region.TheVariants.{Then, Loop}
 use Rattle.dxil_form.specs.Graphs.{Graph, SolePred, folded, absorbed}
+use Rattle.dxil_form.specs.Branches.{branches}
 use Rattle.dxil_form.specs.Walks.{Goes}
-use Rattle.dxil_form.specs.Walks.Goes.{then_leaves, then_goes_on, loop_leaves, arms_leave, arms_go_on}
+use Rattle.dxil_form.specs.Walks.Goes.{then_leaves, then_goes_on, loop_leaves}
 use Rattle.graph_laws.proofs.Rewrites.{edge_absorbed}
-use Rattle.region_laws.proofs.Places.{last}
-use Rattle.region_laws.specs.Paths.{PassesUpTo}
+use Rattle.region_laws.proofs.Places.{last, cases_last}
+use Rattle.region_laws.specs.Paths.{Run, nowhere, PassesUpTo}
+use Rattle.region_laws.proofs.Runs.{run_wider}
 use Rattle.region_laws.proofs.Walking.{goes_up, goes_down}
 use Rattle.region_laws.specs.Standing.{less, Stands}
 use Rattle.region_laws.proofs.Standing.{minus, minus_parts, minus_from, exact, from_exact, drop, going_stands}
 use Rattle.region_laws.proofs.Going.{goes_may, stands_up, then_leads, loop_exact}
 use Rattle.region_builder.specs.Walked.{TellsEntries, Walked}
 use Rattle.region_builder.specs.Built.{Built}
+use Rattle.region_builder.proofs.Entries.{entry_test, entry_tells}
 use Rattle.region_builder.proofs.Growing.{Rewritten}
 use Rattle.region_builder.proofs.Steps.{one_node, join_rewritten, folded_same}
 
@@ -235,7 +238,11 @@ module _ (p : Program) (list : List Region) (blocks places : List ℕ) (g : Grap
         (λ m. up_goes x (get_or places i 0) (get_or blocks y 0) (w.goes i y (elim o [ inl d ↦ d | inr (q, _) ↦ absurd (m q) ])))
 
     pub join_walked : Walked p whole blocks (set places a (length list)) now
-    join_walked = record { stands = join_stands; goes = join_goes }
+    join_walked = record {
+      stands = join_stands;
+      goes = join_goes;
+      rings = λ r body head h. elim (cases_last list x r (Loop body head) h) [ inl o ↦ w.rings r body head o | inr (_, o) ↦ absurd (cc) ];
+    }
 
   module _ (a : ℕ) (self : g.edge a a ≡ true) where
     abbrev loop : Region
@@ -271,8 +278,31 @@ module _ (p : Program) (list : List Region) (blocks places : List ℕ) (g : Grap
         )))
         (λ m. up_goes loop (get_or places i 0) (get_or blocks y 0) (w.goes i y d))
 
+    -- the walk that wants its own block is a ring
+    abbrev IsOnRing : ℕ → Type 0
+    IsOnRing k = (v : List ℕ) × (y : ℕ) × Run p nowhere k v y × (branches p y k ≡ true)
+
+    abbrev tested : ℕ → Bool
+    tested = entry_test blocks g
+
+    own_ring : IsOnRing (get_or blocks a 0)
+    own_ring =
+        let (v, h) = w.goes a a self in
+        let tells = entry_tells blocks g (λ i l. (let m = b.formed.within i l in let c = b.count in omega arith)) in
+        let (y, run, fits) = (w.stands tested tells a self_live).goes v (Some (get_or blocks a 0)) h in
+        (v, y, run_wider p (less tested (get_or blocks a 0)) nowhere (λ z _. refl) run, fits.0)
+
     pub loop_walked : Walked p looped blocks (set places a (length list)) (folded g a)
-    loop_walked = record { stands = loop_stands; goes = loop_goes }
+    loop_walked = record {
+      stands = loop_stands;
+      goes = loop_goes;
+      rings = λ r body head h. elim (cases_last list loop r (Loop body head) h) [
+        | inl o ↦ w.rings r body head o
+        | inr (_, o) ↦ (
+            let q : get_or blocks a 0 ≡ head = cc in
+            let P : ℕ → Type 0 = λ z. IsOnRing z in subst P q own_ring)
+      ];
+    }
 
 -- ---- the same for what a call leaves
 

@@ -1,5 +1,5 @@
 -- Several nodes that one node absorbs.
-use Rattle.std.specs.Prelude.{◌≡◌, ◌≢◌, ◌⊎◌, ◌↔◌, ℕ, ◌<◌, ◌≤◌, true, false, List, length, map, Some, slice_get, slice_index}
+use Rattle.std.specs.Prelude.{◌≡◌, ◌≢◌, ◌⊎◌, ◌↔◌, ℕ, ◌≤◌, true, false, List, length, map, Some, slice_get, slice_index}
 use Rattle.dxil_form.specs.Graphs.{Graph, IsFormed, AllReached, SolePred, Crossed, IsHeadOver}
 use Rattle.dxil_form.specs.Branches.{has}
 

@@ -13,6 +13,7 @@ use Rattle.region_leaves.specs.Leaves.{AreReachable}
 use Rattle.head_table.specs.Table.{over}
 use Rattle.region_builder.specs.Walked.{Walked}
 use Rattle.region_builder.specs.Traced.{Traced}
+use Rattle.region_builder.specs.Bare.{Fixed}
 use Rattle.region_builder.specs.declared.partial.Partial.{Partial}
 use Rattle.region_builder.specs.declared.builder.Builder.{Builder}
 
@@ -58,6 +59,7 @@ pub record BuiltBy (p : Program) (first : Partial) (b : Builder) : Type 0 where
   pub built : Built p b.list b.blocks.items b.places.items (plain b.graph)
   pub walked : Walked p b.list b.blocks.items b.places.items (plain b.graph)
   pub traced : Traced p first b.list b.blocks.items b.places.items (plain b.graph) b.firsts.items b.heads
+  pub fixed : Fixed (plain first.graph) (length b.blocks.items) b.firsts.items b.ranks.items
 
 -- some program and some beginning have these regions
 abbrev pub IsBuilt : Builder → Type 0
@@ -87,6 +89,9 @@ pub record Went (old new : Builder) (done : Bool) : Type 0 where
   pub rings : SameRings old.graph new.graph
   pub smaller : done ≡ true → size new.graph < size old.graph
   pub same : done ≡ false → plain new.graph ≡ plain old.graph
+  pub list : done ≡ false → new.list ≡ old.list
+  pub places : done ≡ false → new.places.items ≡ old.places.items
+  pub ranks : new.ranks.items ≡ old.ranks.items
   pub told : done ≡ false → new.heads ≡ old.heads
   pub fewer : (h b : ℕ) → over old.heads h b ≡ false → over new.heads h b ≡ false
 

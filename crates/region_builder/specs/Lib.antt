@@ -7,4 +7,6 @@ pub mod Traced
 pub mod Settled
 pub mod Built
 pub mod Absorbing
+pub mod Bare
+pub mod Advancing
 pub mod Children

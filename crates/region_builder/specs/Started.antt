@@ -11,7 +11,7 @@ use Rattle.flow_graph.specs.Shapes.{plain}
 use Rattle.region_laws.specs.Roots.{HasRoot, WiredRoots}
 use Rattle.region_laws.specs.Paths.{RootsPass}
 use Rattle.region_leaves.specs.Leaves.{AreReachable, leaves_of, placed_from}
-use Rattle.region_builder.specs.Loops.{ArmsAreSole}
+use Rattle.region_builder.specs.Loops.{LoopsAreOnRings, ArmsAreSole}
 use Rattle.region_builder.specs.declared.partial.Partial.{Partial}
 
 -- node i of the graph stands for the i-th of the blocks, all nodes are live, and the edges are the branches
@@ -30,10 +30,11 @@ pub record IsStarted (p : Program) (partial : Partial) : Type 0 where
   pub roots : partial.roots ≡ placed_from 0 blocks
   pub graph : IsNodeGraph p blocks (plain partial.graph)
 
--- the nodes of the graph are numbered by the reachable blocks, and the live ones are those of the blocks that enter roots
+-- the nodes of the graph are numbered by the reachable blocks, the live ones are those of the blocks that enter roots, and edges join live nodes
 pub record HasNodes (blocks : List ℕ) (roots : List (ℕ × ℕ)) (g : Graph) : Type 0 where
   pub count : g.count ≡ length blocks
   pub live : (i : ℕ) → (g.live i ≡ true) ↔ ((b : ℕ) × (r : ℕ) × (slice_get blocks i ≡ Some b) × HasRoot roots b r)
+  pub edges : (i j : ℕ) → g.edge i j ≡ true → (g.live i ≡ true) × (g.live j ≡ true)
 
 -- an edge leads from a root to each root that it may want
 abbrev pub WantsAlongEdges : Program → List ℕ → List Region → List (ℕ × ℕ) → Graph → Type 0
@@ -50,9 +51,11 @@ pub record IsPartial (p : Program) (partial : Partial) : Type 0 where
   pub sound : Sound p
   pub blocks : List ℕ
   pub reachable : AreReachable p blocks
+  pub few : length blocks ≤ 400
   pub wired : WiredRoots p partial.list partial.roots
   pub nodes : HasNodes blocks partial.roots (plain partial.graph)
   pub wants : WantsAlongEdges p blocks partial.list partial.roots (plain partial.graph)
   pub passes : RootsPass p partial.list partial.roots
   pub walks : WalksAlongEdges p blocks partial.list partial.roots (plain partial.graph)
+  pub loops : LoopsAreOnRings p partial.list
   pub arms : ArmsAreSole p partial.list

@@ -7,6 +7,7 @@ ghost use Rattle.flow_graph.specs.Shapes.{plain};
 ghost use Rattle.head_table.specs.Table.{over};
 ghost use Rattle.region_builder.specs.Settled.{IsAllowed, MayRepeat};
 ghost use Rattle.region_builder.specs.Built.{IsBuilt, Keeps, SameRings, Went, size};
+ghost use Rattle.region_builder.specs.Bare.{PutsArms};
 ghost use Rattle.region_builder.specs.Absorbing.{AreChildren, AreAbsorbed, arms_of};
 
 use dx_base::{Cases, List, OutOfMemory};
@@ -16,7 +17,7 @@ use head_table::HeadTable;
 use std::alloc::Global;
 
 /// A list of regions; the block that enters each node; the place of the root of each live node; the graph of the nodes; the sole predecessor of each node at first, if
-/// it had one; and the heads that have no loop yet.
+/// it had one; the rank of each node, lower than that of each node whose sole predecessor it is; and the heads that have no loop yet.
 #[derive(Drop)]
 pub(crate) struct Builder {
     pub(crate) list: RegionList,
@@ -24,6 +25,7 @@ pub(crate) struct Builder {
     pub(crate) places: Vec<u32>,
     pub(crate) graph: Graph,
     pub(crate) firsts: Vec<Option<u32>>,
+    pub(crate) ranks: Vec<u32>,
     pub(crate) heads: HeadTable,
 }
 
@@ -72,6 +74,7 @@ impl Builder {
         ensures blocks { OnOk result (self.new.blocks.items ≡ self.old.blocks.items) }
         ensures graph { OnOk result (self.new.graph ≡ self.old.graph) }
         ensures firsts { OnOk result (self.new.firsts ≡ self.old.firsts) }
+        ensures ranks { OnOk result (self.new.ranks ≡ self.old.ranks) }
         ensures heads { OnOk result (self.new.heads ≡ self.old.heads) }
     {
         let place = self.list.len() as u32;
@@ -93,6 +96,7 @@ impl Builder {
         ensures rings { OnOk result (SameRings self.old.graph self.new.graph) }
         ensures smaller { OnOk result (size self.new.graph < size self.old.graph) }
         ensures heads { OnOk result (self.new.heads ≡ self.old.heads) }
+        ensures ranks { OnOk result (self.new.ranks.items ≡ self.old.ranks.items) }
     {
         let first = self.places[a as usize];
         let second = self.places[j as usize];
@@ -124,6 +128,7 @@ impl Builder {
         requires live { (plain self.old.graph).live a ≡ true }
         ensures went { IfOk result (λ done. Went self.old self.new done) }
         ensures live { OnOk result ((plain self.new.graph).live a ≡ true) }
+        ensures did { IfOk result (λ done. done ≡ true → MayRepeat (over self.old.heads) (plain self.old.graph) a) }
         ensures may { IfOk result (λ done. done ≡ false → MayRepeat (over self.old.heads) (plain self.old.graph) a → ⊥) }
     {
         if !self.may_repeat(a) {
@@ -161,6 +166,8 @@ impl Builder {
         ensures rings { OnOk result (SameRings self.old.graph self.new.graph) }
         ensures smaller { OnOk result (size self.new.graph < size self.old.graph) }
         ensures heads { OnOk result (self.new.heads ≡ self.old.heads) }
+        ensures ranks { OnOk result (self.new.ranks.items ≡ self.old.ranks.items) }
+        ensures arms { OnOk result (PutsArms self.old self.new a) }
     {
         let first = self.places[a as usize];
         let arms = arms_for(alloc, &self.blocks, &self.places, nodes)?;

@@ -1,6 +1,6 @@
 //! Rewriting as far as possible.
 
-ghost use Rattle.std.specs.Prelude.{◌≡◌, ◌≢◌, ◌<◌, ◌≤◌, ◌+◌, ℕ, length, slice_get, true, false, ◌||◌, OnOk, IfOk, IsTrue, Some};
+ghost use Rattle.std.specs.Prelude.{◌≡◌, ◌≢◌, ◌<◌, ◌≤◌, ◌+◌, ◌↔◌, ℕ, length, slice_get, slice_index, true, false, ◌||◌, OnOk, IfOk, IsTrue, Some};
 ghost use Rattle.std.specs.Option.{IfSome, IfNone};
 ghost use Rattle.dxil_form.specs.Graphs.{SolePred};
 ghost use Rattle.flow_graph.specs.Shapes.{plain};
@@ -8,6 +8,8 @@ ghost use Rattle.head_table.specs.Table.{over};
 ghost use Rattle.region_builder.specs.Settled.{IsAllowed, MayRepeat, IsSettledBy, AllSettledBy};
 ghost use Rattle.region_builder.specs.Built.{IsBuilt, Keeps, SameRings, Went, size};
 ghost use Rattle.region_builder.specs.Children.{AreChildrenBelow};
+ghost use Rattle.region_builder.specs.Bare.{HasLeaf, NoArms, Branched};
+ghost use Rattle.region_builder.specs.Advancing.{Advances, StaysBare};
 
 use crate::builder::Builder;
 use dx_base::OutOfMemory;
@@ -80,6 +82,8 @@ impl Builder {
         requires live { (plain self.old.graph).live a ≡ true }
         ensures went { IfOk result (λ done. Went self.old self.new done) }
         ensures live { OnOk result ((plain self.new.graph).live a ≡ true) }
+        ensures branched { IfOk result (λ done. done ≡ true → Branched self.old self.new a) }
+        ensures none { IfOk result (λ done. done ≡ false → HasLeaf self.old a → NoArms self.old a) }
     {
         if !self.is_leaf(a) {
             return Ok(false);
@@ -97,7 +101,9 @@ impl Builder {
         requires built { IsBuilt self.old }
         requires live { (plain self.old.graph).live a ≡ true }
         ensures went { IfOk result (λ done. Went self.old self.new done) }
+        ensures live { OnOk result ((plain self.new.graph).live a ≡ true) }
         ensures none { OnOk result ((j : ℕ) → j ≢ 0 → SolePred (plain self.new.graph) a j → IsAllowed (over self.new.heads) a j → ⊥) }
+        ensures did { IfOk result (λ joined. joined ≡ true → (j : ℕ) × ((plain self.old.graph).edge a j ≡ true)) }
     {
         let mut joined = false;
         while let Some(j) = self.first_child(a) {
@@ -113,11 +119,13 @@ impl Builder {
         requires live { (plain self.old.graph).live a ≡ true }
         ensures went { IfOk result (λ done. Went self.old self.new done) }
         ensures settled { IfOk result (λ done. done ≡ false → IsSettledBy (over self.old.heads) (plain self.old.graph) a) }
+        ensures bare { OnOk result (Advances self.old self.new (slice_index self.old.ranks.items a) a (a + 1)) }
     {
-        let folded = self.repeat(a)?;
         let branched = self.branch_children(alloc, a)?;
         let joined = self.join_children(a)?;
-        Ok(either(folded, either(branched, joined)))
+        let folded = self.repeat(a)?;
+        let rest = self.join_children(a)?;
+        Ok(either(either(branched, joined), either(folded, rest)))
     }
 
     /// The same at any node.
@@ -126,6 +134,7 @@ impl Builder {
         requires a { a < self.old.graph.count }
         ensures went { IfOk result (λ done. Went self.old self.new done) }
         ensures settled { IfOk result (λ done. done ≡ false → (plain self.old.graph).live a ≡ true → IsSettledBy (over self.old.heads) (plain self.old.graph) a) }
+        ensures bare { OnOk result (Advances self.old self.new (slice_index self.old.ranks.items a) a (a + 1)) }
     {
         if self.graph.is_live(a) {
             self.step(alloc, a)
@@ -134,16 +143,56 @@ impl Builder {
         }
     }
 
-    /// Visits each node, the last one first, and tells whether anything was done.
+    /// Tells whether a node has the rank.
+    fn has_rank(&self, a: u32, rank: u32) -> bool
+        requires built { IsBuilt self.now }
+        requires a { a < self.now.graph.count }
+        ensures { IsTrue result ↔ (slice_index self.now.ranks.items a ≡ rank) }
+    {
+        self.ranks[a as usize] == rank
+    }
+
+    /// The same at a node of a rank, and nothing at any other node.
+    fn visit_at(&mut self, alloc: Global, rank: u32, a: u32) -> Result<bool, OutOfMemory>
+        requires built { IsBuilt self.old }
+        requires a { a < self.old.graph.count }
+        ensures went { IfOk result (λ done. Went self.old self.new done) }
+        ensures settled { IfOk result (λ done. done ≡ false → slice_index self.old.ranks.items a ≡ rank → (plain self.old.graph).live a ≡ true → IsSettledBy (over self.old.heads) (plain self.old.graph) a) }
+        ensures bare { OnOk result (Advances self.old self.new rank a (a + 1)) }
+    {
+        if self.has_rank(a, rank) {
+            self.visit(alloc, a)
+        } else {
+            Ok(false)
+        }
+    }
+
+    /// Visits each node of a rank, and tells whether anything was done.
+    fn visit_rank(&mut self, alloc: Global, rank: u32) -> Result<bool, OutOfMemory>
+        requires built { IsBuilt self.old }
+        ensures went { IfOk result (λ done. Went self.old self.new done) }
+        ensures settled { IfOk result (λ done. done ≡ false → (a : ℕ) → slice_index self.old.ranks.items a ≡ rank → (plain self.old.graph).live a ≡ true → IsSettledBy (over self.old.heads) (plain self.old.graph) a) }
+        ensures bare { OnOk result (Advances self.old self.new rank 0 (length self.old.blocks.items)) }
+    {
+        let mut changed = false;
+        for a in 0..self.blocks.len() as u32 {
+            let done = self.visit_at(alloc, rank, a)?;
+            changed = either(changed, done);
+        }
+        Ok(changed)
+    }
+
+    /// Visits each node, those of the highest rank first, and tells whether anything was done.
     fn round(&mut self, alloc: Global) -> Result<bool, OutOfMemory>
         requires built { IsBuilt self.old }
         ensures went { IfOk result (λ done. Went self.old self.new done) }
         ensures settled { IfOk result (λ done. done ≡ false → AllSettledBy (over self.old.heads) (plain self.old.graph)) }
+        ensures bare { OnOk result (StaysBare self.old self.new) }
     {
         let mut changed = false;
-        let count = self.blocks.len() as u32;
-        for seen in 0..count {
-            let done = self.visit(alloc, count - 1 - seen)?;
+        let most = self.blocks.len() as u32 + 1;
+        for seen in 0..most + 1 {
+            let done = self.visit_rank(alloc, most - seen)?;
             changed = either(changed, done);
         }
         Ok(changed)
@@ -155,6 +204,7 @@ impl Builder {
         ensures built { OnOk result (Keeps self.old self.new) }
         ensures rings { OnOk result (SameRings self.old.graph self.new.graph) }
         ensures settled { OnOk result (AllSettledBy (over self.new.heads) (plain self.new.graph)) }
+        ensures bare { OnOk result (StaysBare self.old self.new) }
         ensures fewer { OnOk result ((h b : ℕ) → over self.old.heads h b ≡ false → over self.new.heads h b ≡ false) }
     {
         while self.round(alloc)? {}
@@ -168,6 +218,7 @@ impl Builder {
         ensures built { Keeps self.old self.new }
         ensures rings { SameRings self.old.graph self.new.graph }
         ensures cleared { (h b : ℕ) → over self.new.heads h b ≡ false }
+        ensures bare { StaysBare self.old self.new }
     {
         self.heads.clear();
     }

@@ -2,18 +2,20 @@
 
 ghost use Rattle.std.specs.Prelude.{◌≡◌, ◌<◌, ◌↔◌, ◌^◌, ◌∷◌, ◌++◌, [], ℕ, cond, length, map, slice_index, true, IfOk, OnOk};
 ghost use Rattle.dxil_form.specs.declared.program.Program.{Program};
-ghost use Rattle.dxil_form.specs.Graphs.{Crossed};
+ghost use Rattle.dxil_form.specs.Graphs.{Graph as Branching, Crossed};
+ghost use Rattle.dxil_form.specs.Branches.{IsBranchGraph};
 ghost use Rattle.flow_graph.specs.Shapes.{plain};
 ghost use Rattle.region_builder.specs.Started.{IsStarted, IsPartial};
 ghost use Rattle.region_builder.specs.Built.{IsBuilt, BuiltBy, AllSettled};
-ghost use Rattle.region_builder.specs.Loops.{LoopsAreRings};
+ghost use Rattle.region_builder.specs.Loops.{LoopsAreHeads};
+ghost use Rattle.region_builder.specs.Bare.{IsTree, NoThen, Bare};
 ghost use Rattle.region_builder.specs.Children.{AreRoots, AreSolePreds};
 
 use crate::builder::Builder;
 use crate::partial::Partial;
 use dx_base::{Cases, List, OutOfMemory};
 use flow_graph::Graph;
-use head_table::HeadTable;
+use head_table::heads_of;
 use std::alloc::Global;
 
 /// The blocks that enter the roots.
@@ -70,20 +72,22 @@ fn sole_preds(alloc: Global, graph: &Graph, count: usize) -> Result<Vec<Option<u
 /// Regions under roots, before anything was done.
 fn open(alloc: Global, partial: Partial) -> Result<Builder, OutOfMemory>
     requires { (p : Program) × IsStarted p partial }
-    ensures { IfOk result (λ builder. (p : Program) → IsStarted p partial → BuiltBy p partial builder) }
+    ensures built { IfOk result (λ builder. (p : Program) → IsStarted p partial → BuiltBy p partial builder) }
+    ensures bare { IfOk result (λ builder. Bare (plain partial.graph) builder) }
 {
     let blocks = blocks_of(alloc, partial.roots.as_slice())?;
     let places = places_of(alloc, partial.roots.as_slice())?;
     let mut graph = partial.graph;
     let firsts = sole_preds(alloc, &graph, blocks.len())?;
-    let heads = HeadTable::new(alloc, &mut graph, blocks.len())?;
+    let heads = heads_of(alloc, &mut graph, blocks.len())?;
     Ok(Builder {
         list: partial.list,
         blocks,
         places,
         graph,
         firsts,
-        heads,
+        ranks: heads.ranks,
+        heads: heads.table,
     })
 }
 
@@ -123,9 +127,9 @@ fn shut(alloc: Global, builder: Builder) -> Result<Partial, OutOfMemory>
     requires built { IsBuilt builder }
     requires settled { AllSettled (plain builder.graph) }
     ensures partial { IfOk result (λ left. (p : Program) (first : Partial) → BuiltBy p first builder → IsPartial p left) }
-    ensures single { IfOk result (λ left. (p : Program) (first : Partial) → BuiltBy p first builder → (length left.roots ≡ 1) ↔ (Crossed (plain first.graph) → ⊥)) }
-    ensures loops { IfOk result (λ left. (p : Program) (first : Partial) → BuiltBy p first builder → (Crossed (plain first.graph) → ⊥)
-        → LoopsAreRings (plain first.graph) (map (λ root. root.0) first.roots) left.list) }
+    ensures list { IfOk result (λ left. left.list ≡ builder.list) }
+    ensures single { IfOk result (λ left. (p : Program) (first : Partial) (g : Branching) → BuiltBy p first builder → IsBranchGraph p g → (length left.roots ≡ 1) ↔ (Crossed g → ⊥)) }
+    ensures loops { IfOk result (λ left. (p : Program) (first : Partial) (g : Branching) → BuiltBy p first builder → IsBranchGraph p g → (Crossed g → ⊥) → LoopsAreHeads g left.list) }
 {
     let roots = live_roots(alloc, &builder.graph, &builder.blocks, &builder.places)?;
     Ok(Partial {
@@ -137,12 +141,14 @@ fn shut(alloc: Global, builder: Builder) -> Result<Partial, OutOfMemory>
 
 /// Puts regions together as far as the rewriting of their graph leads.
 ///
-/// One root is left exactly where no ring of the graph has two entrances. Then each head has one loop, over the blocks that its rings pass.
+/// One root is left exactly where no ring of the branch graph has two entrances. Then each head has one loop, over the blocks that its rings pass. Where each block has
+/// at most one edge into it, no region is a `Then`.
 pub fn build(alloc: Global, partial: Partial) -> Result<Partial, OutOfMemory>
     requires { (p : Program) × IsStarted p partial }
     ensures partial { IfOk result (λ left. (p : Program) → IsStarted p partial → IsPartial p left) }
-    ensures single { IfOk result (λ left. (length left.roots ≡ 1) ↔ (Crossed (plain partial.graph) → ⊥)) }
-    ensures loops { IfOk result (λ left. (Crossed (plain partial.graph) → ⊥) → LoopsAreRings (plain partial.graph) (map (λ root. root.0) partial.roots) left.list) }
+    ensures single { IfOk result (λ left. (p : Program) (g : Branching) → IsStarted p partial → IsBranchGraph p g → (length left.roots ≡ 1) ↔ (Crossed g → ⊥)) }
+    ensures loops { IfOk result (λ left. (p : Program) (g : Branching) → IsStarted p partial → IsBranchGraph p g → (Crossed g → ⊥) → LoopsAreHeads g left.list) }
+    ensures no_then { IfOk result (λ left. (p : Program) (g : Branching) → IsStarted p partial → IsBranchGraph p g → IsTree g → NoThen left.list) }
 {
     let mut builder = open(alloc, partial)?;
     builder.reduce(alloc)?;

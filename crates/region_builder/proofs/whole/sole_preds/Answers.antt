@@ -1,4 +1,4 @@
-use Rattle.std.proofs.Common.{◌≡◌, ◌+◌, ℕ, List, [], ◌∷◌, ◌++◌, length, length-append, Option, ap, sym, subst, arith}
+use Rattle.std.proofs.Common.{ℕ, List, [], ◌∷◌, length, length-append, Option, ap, sym, subst, arith}
 use Rattle.flow_graph.specs.Shapes.{plain}
 use Rattle.region_builder.specs.Children.{AreSolePreds}
 use Rattle.region_builder.proofs.Leaving.{no_preds, preds_on}
@@ -18,5 +18,5 @@ loop-j-preserved c =
     let n = c.loop-j.invariant.len in
     record {
       len = omega arith;
-      sole = subst P (sym c.in_ok-add_pred.ensures) (preds_on (plain c.args.graph.now) c.loop-j.preds.items c.loop-j.j c.sole_pred-pred.result c.loop-j.invariant.sole n c.sole_pred-pred.ensures.some);
+      sole = subst P (sym c.in_ok-add_pred.ensures) (preds_on (plain c.args.graph.now) c.loop-j.preds.items c.loop-j.j c.sole_pred-pred.result c.loop-j.invariant.sole n c.sole_pred-pred.ensures.some c.sole_pred-pred.ensures.none);
     }

@@ -1,4 +1,4 @@
-use Rattle.std.proofs.Common.{◌≡◌, ◌<◌, ℕ, List, [], ◌∷◌, ◌++◌, get_or, length, arith, ap, refl, sym, subst, ◌∙◌}
+use Rattle.std.proofs.Common.{◌≡◌, ℕ, List, [], ◌∷◌, ◌++◌, get_or, length, arith, ap, refl, subst, ◌∙◌}
 use Rattle.std.proofs.lemmas.List.{get_or_default}
 use Rattle.dxil_form.specs.declared.region.Region.{Region}
 use Rattle.dxil_form.specs.declared.region.Region.TheVariants.{Arms}
@@ -6,7 +6,7 @@ use Rattle.flow_graph.specs.Shapes.{Shape, plain}
 use Rattle.region_builder.specs.Absorbing.{AreAbsorbed, arms_of}
 use Rattle.region_builder.proofs.Branching.{branch_left, parent_inside, child_inside}
 use Rattle.region_builder.proofs.ArmsWalking.{branch_walks}
-use Rattle.region_builder.proofs.Tracing.{traced_branch, traced_left}
+use Rattle.region_builder.proofs.Tracing.{traced_branch, traced_left, fixed_left}
 use Rattle.region_builder.proofs.Sizes.{branch_less}
 use Rattle.region_builder.proofs.builder.Builder.branch.Goals as goal
 
@@ -49,6 +49,8 @@ returns-clause-built c p f b =
           (ap (λ v. v.items) c.in_ok-add.ensures.firsts) c.in_ok-add.ensures.heads
           (traced_branch p c.args.self.now.list c.args.self.now.blocks.items c.args.self.now.places.items (plain c.args.self.now.graph) b.built f c.args.self.now.firsts.items c.args.self.now.heads b.traced
           c.args.a c.args.nodes.now c.requires.children block leaf (plain c.absorb_all.new.graph) are c.requires.own c.requires.allowed);
+      fixed = fixed_left (plain f.graph) _ c.args.self.now.blocks.items _ c.args.self.now.firsts.items _ c.args.self.now.ranks.items c.in_ok-add.ensures.blocks
+          (ap (λ v. v.items) c.in_ok-add.ensures.firsts) (ap (λ v. v.items) c.in_ok-add.ensures.ranks) b.fixed;
     }
 
 pub returns-clause-rings : goal.returns-clause-rings
@@ -61,3 +63,9 @@ returns-clause-smaller c =
     let (p, f, b) = c.requires.built in
     let P : Shape → Type 0 = λ s. AreAbsorbed (plain s) c.args.a c.args.nodes.now (plain c.absorb_all.new.graph) in
     branch_less (plain c.args.self.now.graph) b.built.formed c.args.a c.args.nodes.now (plain c.absorb_all.new.graph) c.requires.children (subst P c.in_ok-add.ensures.graph c.absorb_all.ensures)
+
+pub returns-clause-ranks : goal.returns-clause-ranks
+returns-clause-ranks c = ap (λ v. v.items) c.in_ok-add.ensures.ranks
+
+pub returns-clause-arms : goal.returns-clause-arms
+returns-clause-arms c = record { first = c.index-first.result.now; arms = c.in_ok-arms.arms; list = c.in_ok-add.ensures.list; places = c.in_ok-add.ensures.places }

@@ -1,4 +1,4 @@
-use Rattle.std.proofs.Common.{◌≡◌, ℕ, inl, inr, subst, arith}
+use Rattle.std.proofs.Common.{ℕ, inl, inr, subst, arith}
 use Rattle.flow_graph.specs.Shapes.{plain}
 use Rattle.std.proofs.lemmas.Bool.{cases_eq, both_ways}
 use Rattle.dxil_form.specs.Graphs.{SolePred}

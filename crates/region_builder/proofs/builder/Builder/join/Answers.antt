@@ -1,4 +1,4 @@
-use Rattle.std.proofs.Common.{◌≡◌, ◌<◌, ℕ, List, [], ◌∷◌, ◌++◌, get_or, length, arith, ap, sym, refl, ◌∙◌}
+use Rattle.std.proofs.Common.{◌≡◌, [], ◌∷◌, ◌++◌, get_or, arith, ap, refl, ◌∙◌}
 use Rattle.std.proofs.lemmas.List.{get_or_default}
 use Rattle.dxil_form.specs.declared.region.Region.{Region}
 use Rattle.dxil_form.specs.declared.region.Region.TheVariants.{Then}
@@ -7,7 +7,7 @@ use Rattle.flow_graph.specs.Shapes.{Shape, plain}
 use Rattle.graph_laws.proofs.Rewrites.{absorb_keeps}
 use Rattle.region_builder.proofs.Steps.{join_left}
 use Rattle.region_builder.proofs.Walking.{join_walks}
-use Rattle.region_builder.proofs.Tracing.{traced_join, traced_left}
+use Rattle.region_builder.proofs.Tracing.{traced_join, traced_left, fixed_left}
 use Rattle.region_builder.proofs.Sizes.{absorb_less, less_of, rings_of}
 use Rattle.region_builder.proofs.builder.Builder.join.Goals as goal
 
@@ -35,6 +35,8 @@ returns-clause-built c p f b =
           (ap (λ v. v.items) c.in_ok-add.ensures.firsts) c.in_ok-add.ensures.heads
           (traced_join p c.args.self.now.list c.args.self.now.blocks.items c.args.self.now.places.items (plain c.args.self.now.graph) b.built f c.args.self.now.firsts.items c.args.self.now.heads b.traced
           c.args.a c.args.j c.requires.entry pred c.requires.allowed);
+      fixed = fixed_left (plain f.graph) _ c.args.self.now.blocks.items _ c.args.self.now.firsts.items _ c.args.self.now.ranks.items c.in_ok-add.ensures.blocks
+          (ap (λ v. v.items) c.in_ok-add.ensures.firsts) (ap (λ v. v.items) c.in_ok-add.ensures.ranks) b.fixed;
     }
 
 pub returns-clause-rings : goal.returns-clause-rings
@@ -49,3 +51,6 @@ returns-clause-smaller c =
     let graph : plain c.absorb.new.self ≡ absorbed (plain c.args.self.now.graph) c.args.a c.args.j =
     c.absorb.ensures ∙ ap (λ (s : Shape). absorbed (plain s) c.args.a c.args.j) c.in_ok-add.ensures.graph in
     less_of _ c.args.self.now.graph c.absorb.new.self graph (absorb_less (plain c.args.self.now.graph) b.built.formed c.args.a c.args.j c.requires.entry c.requires.sole)
+
+pub returns-clause-ranks : goal.returns-clause-ranks
+returns-clause-ranks c = ap (λ v. v.items) c.in_ok-add.ensures.ranks

@@ -16,6 +16,7 @@ loop-preserved c =
         crossed = (λ k. c.loop.invariant.rings.crossed.0 (w.rings.crossed.0 k), λ k. w.rings.crossed.1 (c.loop.invariant.rings.crossed.1 k));
       };
       fewer = λ h b z. w.fewer h b (c.loop.invariant.fewer h b z);
+      bare = λ p f is tree b. c.in_ok-round.ensures.bare p f (c.loop.invariant.keeps p f is) tree (c.loop.invariant.bare p f is tree b);
     }
 
 pub returns-clause-built : goal.returns-clause-built
@@ -38,3 +39,6 @@ returns-clause-settled c =
     let P : Graph → Type 0 = λ g. AllSettledBy (over c.loop.self.heads) g in
     let Q : HeadTable → Type 0 = λ t. AllSettledBy (over t) (plain c.round.new.self.graph) in
     subst Q (sym (w.told c.if-branch.false)) (subst P (sym (w.same c.if-branch.false)) (c.in_ok-round.ensures.settled c.if-branch.false))
+
+pub returns-clause-bare : goal.returns-clause-bare
+returns-clause-bare c p f is tree b = c.in_ok-round.ensures.bare p f (c.loop.invariant.keeps p f is) tree (c.loop.invariant.bare p f is tree b)

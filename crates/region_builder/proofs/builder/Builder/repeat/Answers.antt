@@ -1,18 +1,18 @@
-use Rattle.std.proofs.Common.{◌≡◌, ◌<◌, ◌&&◌, ℕ, List, [], ◌∷◌, ◌++◌, get_or, length, eqb, not, arith, ap, sym, subst, refl, true, false, ◌∙◌}
-use Rattle.std.proofs.lemmas.Bool.{both_ways, and_left, false≢true}
+use Rattle.std.proofs.Common.{◌≡◌, ℕ, [], ◌∷◌, ◌++◌, get_or, eqb, not, arith, ap, sym, subst, refl, true, false, ◌∙◌}
+use Rattle.std.proofs.lemmas.Bool.{and_left, false≢true}
 use Rattle.std.proofs.lemmas.List.{get_or_default}
 use Rattle.dxil_form.specs.declared.region.Region.{Region}
 use Rattle.dxil_form.specs.declared.region.Region.TheVariants.{Loop}
 use Rattle.dxil_form.specs.Graphs.{Graph, folded}
 use Rattle.graph_laws.proofs.Rewrites.{fold_keeps}
-use Rattle.flow_graph.specs.Shapes.{Shape, plain}
+use Rattle.flow_graph.specs.Shapes.{plain}
 use Rattle.head_table.specs.declared.table.HeadTable.{HeadTable}
 use Rattle.head_table.specs.Table.{over}
 use Rattle.region_builder.specs.Settled.{MayRepeat}
-use Rattle.region_builder.specs.Built.{BuiltBy, Keeps, SameRings, size}
+use Rattle.region_builder.specs.Built.{Keeps}
 use Rattle.region_builder.proofs.Steps.{loop_left}
 use Rattle.region_builder.proofs.Walking.{loop_walks}
-use Rattle.region_builder.proofs.Tracing.{traced_loop, traced_left}
+use Rattle.region_builder.proofs.Tracing.{traced_loop, traced_left, fixed_left}
 use Rattle.region_builder.proofs.Sizes.{fold_lessens, less_of, rings_of}
 use Rattle.region_builder.proofs.Finding.{went_nowhere}
 use Rattle.region_builder.proofs.builder.Builder.repeat.Goals as goal
@@ -46,6 +46,8 @@ keeps c p f b =
           (ap (λ v. v.items) c.in_ok-add.ensures.firsts) c.in_ok-add.ensures.heads
           (traced_loop p c.args.self.now.list c.args.self.now.blocks.items c.args.self.now.places.items (plain c.args.self.now.graph) b.built f c.args.self.now.firsts.items c.args.self.now.heads b.traced
           c.args.a self (may c).alone c.end_head.new.self c.end_head.ensures.count c.end_head.ensures.ended);
+      fixed = fixed_left (plain f.graph) _ c.args.self.now.blocks.items _ c.args.self.now.firsts.items _ c.args.self.now.ranks.items c.in_ok-add.ensures.blocks
+          (ap (λ v. v.items) c.in_ok-add.ensures.firsts) (ap (λ v. v.items) c.in_ok-add.ensures.ranks) b.fixed;
     }
 
 fewer : (c : In_ok-add) (h k : ℕ) → over c.args.self.now.heads h k ≡ false → over c.add.new.self.heads h k ≡ false
@@ -62,6 +64,9 @@ returns-clause-went c =
       smaller = λ t. less_of _ c.args.self.now.graph c.add.new.self.graph (graph d) (fold_lessens (plain c.args.self.now.graph) b.built.formed c.args.a (may d).edge);
       same = λ z. absurd (false≢true (sym z));
       told = λ z. absurd (false≢true (sym z));
+      list = λ z. absurd (false≢true (sym z));
+      places = λ z. absurd (false≢true (sym z));
+      ranks = ap (λ v. v.items) c.in_ok-add.ensures.ranks;
       fewer = fewer d;
     }
 
@@ -69,3 +74,9 @@ pub returns-clause-live : goal.returns-clause-live
 returns-clause-live c =
     let d = (goal.at.returns-clause-live c).In_ok-add in
     let P : Graph → Type 0 = λ g. g.live c.args.a ≡ true in subst P (sym (graph d)) c.requires.live
+
+pub returns-then-not-may_repeat-clause-did : goal.returns-then-not-may_repeat-clause-did
+returns-then-not-may_repeat-clause-did c t = absurd (false≢true t)
+
+pub returns-clause-did : goal.returns-clause-did
+returns-clause-did c t = may (goal.at.returns-clause-did c).In_ok-add
