@@ -120,8 +120,8 @@ byte_word at n part len small few below = by_test (nat_eq part 0) refl
     by_test true e = let zero : part ≡ 0 = nat_eq-eq part 0 e in omega (arith, zero)
     by_test false e = omega arith
 
-pub byte_located : (s : Setting) → Declares s → Fits s.program s.launch → (i : ℕ) (env : Env) (place : ℕ) (regs : Registers) (t : State) (r : ℕ) (at : Operand) (part : ℕ) (words : Words) → part ≤ 3 → Uses s (global.Number 0) → AddrReady s (target.Buffer r) (Byte at) part → address s.program s.launch regs (target.Buffer r) (Byte at) ≡ Some words → Held s env place regs t → Has s.made place (test_code s.context env place (target.Buffer r) (Byte at) part) → Located s i env place regs t (target.Buffer r) (Byte at) part words
-byte_located s d fits i env place regs t r at part words few uses_zero ready is h has =
+pub byte_located : (s : Setting) → Declares s → Fits s.program s.launch → (i : ℕ) (env : Env) (place : ℕ) (regs : Registers) (t : State) (r : ℕ) (at : Operand) (part : ℕ) (words : Words) → part ≤ 3 → AddrReady s (target.Buffer r) (Byte at) part → address s.program s.launch regs (target.Buffer r) (Byte at) ≡ Some words → Held s env place regs t → Has s.made place (test_code s.context env place (target.Buffer r) (Byte at) part) → Located s i env place regs t (target.Buffer r) (Byte at) part words
+byte_located s d fits i env place regs t r at part words few ready is h has =
     let resource : Resource = ready.0.0 in
     let at_r : slice_get s.program.resources r ≡ Some resource = ready.0.1 in
     let raw : resource.kind ≡ kind.Raw = ready.0.2 in
@@ -137,11 +137,11 @@ byte_located s d fits i env place regs t r at part words few uses_zero ready is 
       b = nat_lt (a.n / 4 + part) len;
       word = a.n / 4 + part;
       words_are = a.words_are part;
-      tested = byte_tested s d fits i env place regs t r resource at a.n part few bound at_r plain uses ready.3 ready.4 (ready_anywhere s env at operand_ready) a.is h has;
+      tested = byte_tested s d fits i env place regs t r resource at a.n part few bound at_r plain uses ready.3 ready.5 (ready_anywhere s env at operand_ready) a.is h has;
       pointed = λ inside p t0 h0 code. (let below : a.n / 4 + part < len = less_is (a.n / 4 + part) len inside in
           let base = byte_base s d i no_register p regs t0 at a.n ready.3 operand_ready a.is h0 (has_front s.made p (base_code s.context no_register p (Byte at)) _ (has_front s.made p (word_code s.context no_register p (Byte at) part) _ code)) in
-          let word = word_of_part s d i no_register p regs t0 (Byte at) part (word_shr a.n 2) (λ e. ready.4) base (has_front s.made p (word_code s.context no_register p (Byte at) part) _ code) in
-          word_pointed s d i p regs t0 r (Byte at) part (a.n / 4 + part) (word_shr a.n 2) w buffer.stands_for below (byte_word at a.n part len bound few below) refl uses_zero word code);
+          let word = word_of_part s d i no_register p regs t0 (Byte at) part (word_shr a.n 2) (λ e. ready.5) base (has_front s.made p (word_code s.context no_register p (Byte at) part) _ code) in
+          word_pointed s d i p regs t0 r (Byte at) part (a.n / 4 + part) (word_shr a.n 2) w buffer.stands_for below (byte_word at a.n part len bound few below) refl ready.4 word code);
     }
 
 -- ---- elements
@@ -192,8 +192,8 @@ strides s sound r resource stride at structured =
     let fits = subst (λ k. KindFits k resource.class) structured (sound.resources r resource at).kind in
     (fits.1, fits.3)
 
-pub element_located : (s : Setting) → Declares s → Sound s.program → Fits s.program s.launch → (i : ℕ) (env : Env) (place : ℕ) (regs : Registers) (t : State) (r : ℕ) (index at : Operand) (stride part : ℕ) (words : Words) → part ≤ 3 → is_never (Element index at stride) part ≡ false → Uses s (global.Number 0) → AddrReady s (target.Buffer r) (Element index at stride) part → address s.program s.launch regs (target.Buffer r) (Element index at stride) ≡ Some words → Held s env place regs t → Has s.made place (test_code s.context env place (target.Buffer r) (Element index at stride) part) → Located s i env place regs t (target.Buffer r) (Element index at stride) part words
-element_located s d sound fits i env place regs t r index at stride part words few room uses_zero ready is h has =
+pub element_located : (s : Setting) → Declares s → Sound s.program → Fits s.program s.launch → (i : ℕ) (env : Env) (place : ℕ) (regs : Registers) (t : State) (r : ℕ) (index at : Operand) (stride part : ℕ) (words : Words) → part ≤ 3 → is_never (Element index at stride) part ≡ false → AddrReady s (target.Buffer r) (Element index at stride) part → address s.program s.launch regs (target.Buffer r) (Element index at stride) ≡ Some words → Held s env place regs t → Has s.made place (test_code s.context env place (target.Buffer r) (Element index at stride) part) → Located s i env place regs t (target.Buffer r) (Element index at stride) part words
+element_located s d sound fits i env place regs t r index at stride part words few room ready is h has =
     let resource : Resource = ready.0.0 in
     let at_r : slice_get s.program.resources r ≡ Some resource = ready.0.1 in
     let structured : resource.kind ≡ kind.Structured stride = ready.0.2 in
@@ -210,13 +210,13 @@ element_located s d sound fits i env place regs t r index at stride part words f
       b = nat_le (a.n + 4 * part + 4) stride && nat_lt a.k (len / (stride / 4));
       word = (a.k * stride + a.n) / 4 + part;
       words_are = a.words_are part;
-      tested = element_tested s d i env place regs t r resource index at stride a.k a.n part room at_r plain ready.1 ready.7 ready.6 (ready_anywhere s env index ready_index) (ready_anywhere s env at ready_at) a.index_is a.is h has;
+      tested = element_tested s d i env place regs t r resource index at stride a.k a.n part room at_r plain ready.1 ready.8 ready.7 (ready_anywhere s env index ready_index) (ready_anywhere s env at ready_at) a.index_is a.is h has;
       pointed = λ inside p t0 h0 code. (let both = both_true_lt (nat_le (a.n + 4 * part + 4) stride) (nat_lt a.k (len / (stride / 4))) inside in
           let fits_in : a.n + 4 * part + 4 ≤ stride = le_is (a.n + 4 * part + 4) stride both.0 in
           let below : a.k < len / (stride / 4) = less_is a.k (len / (stride / 4)) both.1 in
-          let base = element_base s d i no_register p regs t0 index at stride a.k a.n ready.4 ready.6 ready_index ready_at a.index_is a.is h0 (has_front s.made p (base_code s.context no_register p (Element index at stride)) _ (has_front s.made p (word_code s.context no_register p (Element index at stride) part) _ code)) in
-          let word = word_of_part s d i no_register p regs t0 (Element index at stride) part (word_add (word_mul a.k (stride / 4)) (word_shr a.n 2)) (λ e. ready.5) base (has_front s.made p (word_code s.context no_register p (Element index at stride) part) _ code) in
-          word_pointed s d i p regs t0 r (Element index at stride) part ((a.k * stride + a.n) / 4 + part) (word_add (word_mul a.k (stride / 4)) (word_shr a.n 2)) w buffer.stands_for (element_in a.k a.n stride part len a.whole stride_is.1 stride_is.0 fits_in below) (element_word index at stride a.k a.n part len a.whole stride_is.1 stride_is.0 bound few fits_in below) refl uses_zero word code);
+          let base = element_base s d i no_register p regs t0 index at stride a.k a.n ready.4 ready.7 ready_index ready_at a.index_is a.is h0 (has_front s.made p (base_code s.context no_register p (Element index at stride)) _ (has_front s.made p (word_code s.context no_register p (Element index at stride) part) _ code)) in
+          let word = word_of_part s d i no_register p regs t0 (Element index at stride) part (word_add (word_mul a.k (stride / 4)) (word_shr a.n 2)) (λ e. ready.6) base (has_front s.made p (word_code s.context no_register p (Element index at stride) part) _ code) in
+          word_pointed s d i p regs t0 r (Element index at stride) part ((a.k * stride + a.n) / 4 + part) (word_add (word_mul a.k (stride / 4)) (word_shr a.n 2)) w buffer.stands_for (element_in a.k a.n stride part len a.whole stride_is.1 stride_is.0 fits_in below) (element_word index at stride a.k a.n part len a.whole stride_is.1 stride_is.0 bound few fits_in below) refl ready.5 word code);
     }
   where
     element_in : (k n stride part len : ℕ) → n % 4 ≡ 0 → stride % 4 ≡ 0 → 4 ≤ stride → n + 4 * part + 4 ≤ stride → k < len / (stride / 4) → (k * stride + n) / 4 + part < len
@@ -232,8 +232,8 @@ element_located s d sound fits i env place regs t r index at stride part words f
 
 -- ---- rows
 
-pub row_located : (s : Setting) → Declares s → Fits s.program s.launch → (i : ℕ) (env : Env) (place : ℕ) (regs : Registers) (t : State) (r : ℕ) (index : Operand) (part : ℕ) (words : Words) → part ≤ 3 → s.context.limit (target.Buffer r) ≡ rows_at s.program (target.Buffer r) → Uses s (global.Number 0) → AddrReady s (target.Buffer r) (Row index) part → address s.program s.launch regs (target.Buffer r) (Row index) ≡ Some words → Held s env place regs t → Has s.made place (test_code s.context env place (target.Buffer r) (Row index) part) → Located s i env place regs t (target.Buffer r) (Row index) part words
-row_located s d fits i env place regs t r index part words few limit_is uses_zero ready is h has =
+pub row_located : (s : Setting) → Declares s → Fits s.program s.launch → (i : ℕ) (env : Env) (place : ℕ) (regs : Registers) (t : State) (r : ℕ) (index : Operand) (part : ℕ) (words : Words) → part ≤ 3 → s.context.limit (target.Buffer r) ≡ rows_at s.program (target.Buffer r) → AddrReady s (target.Buffer r) (Row index) part → address s.program s.launch regs (target.Buffer r) (Row index) ≡ Some words → Held s env place regs t → Has s.made place (test_code s.context env place (target.Buffer r) (Row index) part) → Located s i env place regs t (target.Buffer r) (Row index) part words
+row_located s d fits i env place regs t r index part words few limit_is ready is h has =
     let resource : Resource = ready.0.0 in
     let rows : ℕ = ready.0.1 in
     let at_r : slice_get s.program.resources r ≡ Some resource = ready.0.2 in
@@ -253,10 +253,10 @@ row_located s d fits i env place regs t r index part words few limit_is uses_zer
       tested = index_tested s d i env place regs t index a.k limit (ready_anywhere s env index ready_index) ready.3 a.is h has;
       pointed = λ inside p t0 h0 code. (let below : a.k < limit = less_is a.k limit inside in
           let base = index_base s d i no_register p regs t0 index a.k ready_index a.is h0 (has_front s.made p (base_code s.context no_register p (Row index)) _ (has_front s.made p (word_code s.context no_register p (Row index) part) _ code)) in
-          let n = word_of_part s d i no_register p regs t0 (Row index) part a.k (λ e. ready.4) base (has_front s.made p (word_code s.context no_register p (Row index) part) _ code) in
+          let n = word_of_part s d i no_register p regs t0 (Row index) part a.k (λ e. ready.5) base (has_front s.made p (word_code s.context no_register p (Row index) part) _ code) in
           let plain_word : part_word (Row index) part a.k ≡ a.k = no_sum part a.k in
-          let zero_at = fixed_here s n.t' (number s.context 0) (Word 0) (d.numbers 0 uses_zero) in
-          let part_at = fixed_here s n.t' (number s.context part) (Word part) (d.numbers part ready.4) in
+          let zero_at = fixed_here s n.t' (number s.context 0) (Word 0) (d.numbers 0 ready.4) in
+          let part_at = fixed_here s n.t' (number s.context part) (Word part) (d.numbers part ready.5) in
           let are = three_words_at s n.t' (number s.context 0) (word_id s.context no_register p (Row index) part) (number s.context part) 0 a.k part zero_at (n.is ∙ ap (λ k. Some (Word k)) plain_word) part_at in
           let c = chain_of s d i no_register p regs t0 (target.Buffer r) (Row index) part (part_word (Row index) part a.k) id (0 ∷ a.k ∷ part ∷ []) buffer.variable.pointer n are code in
           let room = rows_fit s.program s.launch fits r resource at_r in

@@ -11,13 +11,12 @@ use Rattle.dxil_meaning.proofs.Simulation.{leads_none}
 use Rattle.dxil_meaning.specs.Source.{Registers}
 use Rattle.dxil_meaning.specs.Source as source
 use Rattle.spirv_meaning.specs.Target.{Word, Truth, State}
-use Rattle.spirv_code.specs.declared.key.Global.TheVariants as global
 use Rattle.spirv_code.specs.declared.event.Event.{Event}
 use Rattle.spirv_code.specs.declared.event.Event.TheVariants.{Load, Store, Atomic, Swap}
 use Rattle.spirv_code.specs.Plans.{Context, inst, result, number, zero_id}
 use Rattle.spirv_code.specs.Reads.{Env, with_id, read_size, read_code, read_id, two_size, two_code, second_id, keep_size, keep_code}
 use Rattle.spirv_code.specs.Accesses.{bool_inst, int_inst, byte_tests, index_test, test_size, test_code, length_inst, same_code, event_reads, event_tail, event_code, zeros_code, zeros_size, zeros_env, zeros_block, other_code, other_size, chain_code, chain_size, word_code}
-use Rattle.line_runs.specs.Held.{Setting, Held, Has, Uses, machine}
+use Rattle.line_runs.specs.Held.{Setting, Held, Has, machine}
 use Rattle.line_runs.specs.Declared.{Declares}
 use Rattle.line_runs.specs.Done.{Done}
 use Rattle.line_runs.proofs.Pieces.{has_front, has_back}
@@ -25,26 +24,26 @@ use Rattle.line_runs.proofs.Results.{fixed_here}
 use Rattle.line_runs.proofs.Keeping.{keep}
 use Rattle.line_runs.proofs.Reading.{read_length, two_length}
 use Rattle.line_runs.proofs.Lines.{joined}
-use Rattle.access_runs.specs.Parts.{EventReady, missed, set_to}
+use Rattle.access_runs.specs.Parts.{ZerosReady, missed, set_to}
 use Rattle.access_runs.proofs.Chains.{word_length}
 use Rattle.access_runs.proofs.Events.{keep_length}
 
-pub zeros_done : (s : Setting) → Declares s → Uses s (global.Number 0) → Uses s (global.Truth false) → (i : ℕ) (target : Target) (env : Env) (place : ℕ) (regs : Registers) (t : State) (event : Event) → EventReady s target event → Held s env place regs t → Has s.made place (zeros_code s.context event) → Done s i (zeros_code s.context event) (zeros_env s.context event env) place (missed event regs) t
-zeros_done s d zero falsehood i target env place regs t (Load to) ready h has =
-    (keep s d i env place regs t to ty.Int (source.Number 0) (zero_id s.context ty.Int) h ready tt (fixed_here s t (zero_id s.context ty.Int) (Word 0) (d.numbers 0 zero)) has).done
-zeros_done s d zero falsehood i target env place regs t (Store value) ready h has =
+pub zeros_done : (s : Setting) → Declares s → (i : ℕ) (env : Env) (place : ℕ) (regs : Registers) (t : State) (event : Event) → ZerosReady s event → Held s env place regs t → Has s.made place (zeros_code s.context event) → Done s i (zeros_code s.context event) (zeros_env s.context event env) place (missed event regs) t
+zeros_done s d i env place regs t (Load to) ready h has =
+    (keep s d i env place regs t to ty.Int (source.Number 0) (zero_id s.context ty.Int) h ready.0 tt (fixed_here s t (zero_id s.context ty.Int) (Word 0) (d.numbers 0 ready.1)) has).done
+zeros_done s d i env place regs t (Store value) ready h has =
     let e : place ≡ place + 0 = omega arith in
     record { t' = t; leads = leads_none (machine s) i t; held = subst (λ n. Held s env n regs t) e h }
-zeros_done s d zero falsehood i target env place regs t (Atomic to op value) ready h has =
-    (keep s d i env place regs t to ty.Int (source.Number 0) (zero_id s.context ty.Int) h ready.1 tt (fixed_here s t (zero_id s.context ty.Int) (Word 0) (d.numbers 0 zero)) has).done
-zeros_done s d zero falsehood i target env place regs t (Swap old same compare value) ready h has =
+zeros_done s d i env place regs t (Atomic to op value) ready h has =
+    (keep s d i env place regs t to ty.Int (source.Number 0) (zero_id s.context ty.Int) h ready.0 tt (fixed_here s t (zero_id s.context ty.Int) (Word 0) (d.numbers 0 ready.1)) has).done
+zeros_done s d i env place regs t (Swap old same compare value) ready h has =
     let c : Context = s.context in
     let front : List Inst = keep_code c old ty.Int (zero_id c ty.Int) in
     let back : List Inst = keep_code c same ty.Bool (zero_id c ty.Bool) in
-    let first = (keep s d i env place regs t old ty.Int (source.Number 0) (zero_id c ty.Int) h ready.2 tt (fixed_here s t (zero_id c ty.Int) (Word 0) (d.numbers 0 zero)) (has_front s.made place front back has)).done in
+    let first = (keep s d i env place regs t old ty.Int (source.Number 0) (zero_id c ty.Int) h ready.0 tt (fixed_here s t (zero_id c ty.Int) (Word 0) (d.numbers 0 ready.2)) (has_front s.made place front back has)).done in
     let regs1 : Registers = set_to old (source.Number 0) regs in
     let env1 : Env = with_id old (zero_id c ty.Int) env in
-    let second = (keep s d i env1 (place + length front) regs1 first.t' same ty.Bool (source.Truth false) (zero_id c ty.Bool) first.held ready.3 tt (fixed_here s first.t' (zero_id c ty.Bool) (Truth false) (d.truths false falsehood)) (has_back s.made place front back has)).done in
+    let second = (keep s d i env1 (place + length front) regs1 first.t' same ty.Bool (source.Truth false) (zero_id c ty.Bool) first.held ready.1 tt (fixed_here s first.t' (zero_id c ty.Bool) (Truth false) (d.truths false ready.3)) (has_back s.made place front back has)).done in
     joined s i front back (length front) (with_id same (zero_id c ty.Bool) env1) place (set_to same (source.Truth false) regs1) t first.t' refl first.leads second
 
 pub zeros_length : (c : Context) (event : Event) → length (zeros_code c event) ≡ zeros_size c event

@@ -19,7 +19,7 @@ use Rattle.line_runs.specs.Held.{Setting, Held, Has, machine}
 use Rattle.line_runs.specs.Declared.{Declares}
 use Rattle.line_runs.proofs.Tests.{none_some}
 use Rattle.line_runs.proofs.Pieces.{has_front, has_back}
-use Rattle.access_runs.specs.Parts.{PartReady, Comes, Acting, PartRuns, missed, asked, answered}
+use Rattle.access_runs.specs.Parts.{EventReady, ZerosReady, PartReady, Comes, Acting, PartRuns, missed, asked, answered}
 use Rattle.access_runs.proofs.Stepping.{held_at, has_at, inst_at}
 use Rattle.access_runs.proofs.Locating.{Pointed}
 use Rattle.access_runs.proofs.Missing.{zeros_done, zeros_length, test_length, chain_length, event_length, other_length}
@@ -89,36 +89,36 @@ lay s t addr part event P test has =
     }
 
 -- a block that sets zeros, behind its label
-zeros_come : (s : Setting) → Declares s → (i : ℕ) (t : Target) (addr : Addr) (part : ℕ) (event : Event) (q meet : ℕ) (regs : Registers) (state : State) → PartReady s t addr part event → Held s no_register (q + 1) regs state → Has s.made q (zeros_block (result s.context q) (result s.context meet) (zeros_code s.context event)) → slice_get s.made.insts meet ≡ Some (inst 248 (result s.context meet ∷ [])) → Comes s i (length (zeros_code s.context event) + 2) no_register (meet + 1) (missed event regs) state
-zeros_come s d i t addr part event q meet regs state ready h has there =
+zeros_come : (s : Setting) → Declares s → (i : ℕ) (event : Event) (q meet : ℕ) (regs : Registers) (state : State) → ZerosReady s event → Held s no_register (q + 1) regs state → Has s.made q (zeros_block (result s.context q) (result s.context meet) (zeros_code s.context event)) → slice_get s.made.insts meet ≡ Some (inst 248 (result s.context meet ∷ [])) → Comes s i (length (zeros_code s.context event) + 2) no_register (meet + 1) (missed event regs) state
+zeros_come s d i event q meet regs state ready h has there =
     let zeros : List Inst = zeros_code s.context event in
     let last : List Inst = inst 249 (result s.context meet ∷ []) ∷ [] in
-    let done = zeros_done s d ready.zero ready.false_is i t no_register (q + 1) regs state event ready.operands h (has_front s.made (q + 1) zeros last has.1) in
+    let done = zeros_done s d i no_register (q + 1) regs state event ready h (has_front s.made (q + 1) zeros last has.1) in
     let branch = has_back s.made (q + 1) zeros last has.1 in
     then_comes s i (length zeros) 2 (length zeros + 2) no_register (meet + 1) (missed event regs) state done.t' done.leads (omega arith) (jump s d i (zeros_env s.context event no_register) (q + 1 + length zeros) meet (missed event regs) done.t' done.held branch.0 there)
 
 -- behind the fork of a part that is out of range
-other_comes : (s : Setting) → Declares s → (i : ℕ) (t : Target) (addr : Addr) (part : ℕ) (event : Event) (env : Env) (P test : ℕ) (regs : Registers) (state : State) → PartReady s t addr part event → Held s env P regs state → Laid s t addr part event P test → value_of s.made state test ≡ Some (Truth false) → Comes s i (meet_at s.context no_register addr part event + 1) no_register (P + meet_at s.context no_register addr part event + 1) (missed event regs) state
+other_comes : (s : Setting) → Declares s → (i : ℕ) (t : Target) (addr : Addr) (part : ℕ) (event : Event) (env : Env) (P test : ℕ) (regs : Registers) (state : State) → ZerosReady s event → Held s env P regs state → Laid s t addr part event P test → value_of s.made state test ≡ Some (Truth false) → Comes s i (meet_at s.context no_register addr part event + 1) no_register (P + meet_at s.context no_register addr part event + 1) (missed event regs) state
 other_comes s d i t addr part (Load to) env P test regs state ready h laid is =
     let O : ℕ = P + other_at s.context no_register addr part (Load to) in
     let M : ℕ = P + meet_at s.context no_register addr part (Load to) in
     let f = fork s d i env P test (result s.context M) (P + 2) O regs state false h laid.merge laid.forks is laid.other.0 in
     let size : length (zeros_code s.context (Load to)) ≡ zeros_size s.context (Load to) = zeros_length s.context (Load to) in
-    let rest = zeros_come s d i t addr part (Load to) O M regs f.t' ready f.held laid.other laid.meet in
+    let rest = zeros_come s d i (Load to) O M regs f.t' ready f.held laid.other laid.meet in
     then_comes s i f.n (length (zeros_code s.context (Load to)) + 2) (meet_at s.context no_register addr part (Load to) + 1) no_register (M + 1) (missed (Load to) regs) state f.t' f.leads (omega (arith, f.few, size)) rest
 other_comes s d i t addr part (Atomic to op value) env P test regs state ready h laid is =
     let O : ℕ = P + other_at s.context no_register addr part (Atomic to op value) in
     let M : ℕ = P + meet_at s.context no_register addr part (Atomic to op value) in
     let f = fork s d i env P test (result s.context M) (P + 2) O regs state false h laid.merge laid.forks is laid.other.0 in
     let size : length (zeros_code s.context (Atomic to op value)) ≡ zeros_size s.context (Atomic to op value) = zeros_length s.context (Atomic to op value) in
-    let rest = zeros_come s d i t addr part (Atomic to op value) O M regs f.t' ready f.held laid.other laid.meet in
+    let rest = zeros_come s d i (Atomic to op value) O M regs f.t' ready f.held laid.other laid.meet in
     then_comes s i f.n (length (zeros_code s.context (Atomic to op value)) + 2) (meet_at s.context no_register addr part (Atomic to op value) + 1) no_register (M + 1) (missed (Atomic to op value) regs) state f.t' f.leads (omega (arith, f.few, size)) rest
 other_comes s d i t addr part (Swap old same compare value) env P test regs state ready h laid is =
     let O : ℕ = P + other_at s.context no_register addr part (Swap old same compare value) in
     let M : ℕ = P + meet_at s.context no_register addr part (Swap old same compare value) in
     let f = fork s d i env P test (result s.context M) (P + 2) O regs state false h laid.merge laid.forks is laid.other.0 in
     let size : length (zeros_code s.context (Swap old same compare value)) ≡ zeros_size s.context (Swap old same compare value) = zeros_length s.context (Swap old same compare value) in
-    let rest = zeros_come s d i t addr part (Swap old same compare value) O M regs f.t' ready f.held laid.other laid.meet in
+    let rest = zeros_come s d i (Swap old same compare value) O M regs f.t' ready f.held laid.other laid.meet in
     then_comes s i f.n (length (zeros_code s.context (Swap old same compare value)) + 2) (meet_at s.context no_register addr part (Swap old same compare value) + 1) no_register (M + 1) (missed (Swap old same compare value) regs) state f.t' f.leads (omega (arith, f.few, size)) rest
 other_comes s d i t addr part (Store value) env P test regs state ready h laid is =
     let O : ℕ = P + other_at s.context no_register addr part (Store value) in
@@ -129,8 +129,8 @@ other_comes s d i t addr part (Store value) env P test regs state ready h laid i
     record { n = f.n; few = omega (arith, f.few); t' = f.t'; leads = f.leads; held = held_at s no_register (O + 1) (M + 1) regs f.t' (omega (arith, e)) f.held }
 
 -- behind the fork of a part in range: the event, and from its answer to where both ways meet
-event_acts : (s : Setting) → Declares s → (i : ℕ) (t : Target) (addr : Addr) (part word : ℕ) (event : Event) (ask : Ask) (env : Env) (P test : ℕ) (regs : Registers) (state : State) → PartReady s t addr part event → ((p : ℕ) (t0 : State) → Held s no_register p regs t0 → Has s.made p (chain_code s.context no_register p t addr part) → Pointed s i p regs t0 t addr part word) → asked event (place_of t word) regs ≡ Some ask → Held s env P regs state → Laid s t addr part event P test → value_of s.made state test ≡ Some (Truth true) → Acting s i (meet_at s.context no_register addr part event + 1) event ask no_register (P + meet_at s.context no_register addr part event + 1) regs state
-event_acts s d i t addr part word event ask env P test regs state ready pointed asks h laid is =
+event_acts : (s : Setting) → Declares s → (i : ℕ) (t : Target) (addr : Addr) (part word : ℕ) (event : Event) (ask : Ask) (env : Env) (P test : ℕ) (regs : Registers) (state : State) → EventReady s t event → ZerosReady s event → ((p : ℕ) (t0 : State) → Held s no_register p regs t0 → Has s.made p (chain_code s.context no_register p t addr part) → Pointed s i p regs t0 t addr part word) → asked event (place_of t word) regs ≡ Some ask → Held s env P regs state → Laid s t addr part event P test → value_of s.made state test ≡ Some (Truth true) → Acting s i (meet_at s.context no_register addr part event + 1) event ask no_register (P + meet_at s.context no_register addr part event + 1) regs state
+event_acts s d i t addr part word event ask env P test regs state operands sets pointed asks h laid is =
     let c : Context = s.context in
     let M : ℕ = P + meet_at c no_register addr part event in
     let nc : ℕ = chain_size c no_register addr part in
@@ -139,7 +139,7 @@ event_acts s d i t addr part word event ask env P test regs state ready pointed 
     let f = fork s d i env P test (result c M) (P + 2) (P + other_at c no_register addr part event) regs state true h laid.merge laid.forks is laid.access in
     let e1 : P + 2 + 1 ≡ P + 3 = omega arith in
     let p = pointed (P + 3) f.t' (held_at s no_register (P + 2 + 1) (P + 3) regs f.t' e1 f.held) laid.chains in
-    let a = ask_event s d i t addr part word event ask E (chain_id c no_register (P + 3) addr part) regs p.t' ready asks p.points p.ahead.held laid.events in
+    let a = ask_event s d i t word event ask E (chain_id c no_register (P + 3) addr part) regs p.t' operands sets asks p.points p.ahead.held laid.events in
     let code : List Inst = event_code c no_register E (chain_id c no_register (P + 3) addr part) t event in
     let size : length code ≡ ne = event_length c no_register E (chain_id c no_register (P + 3) addr part) t event in
     let first = leads_on (machine s) i f.n nc state f.t' p.t' [] [] f.leads p.ahead.leads in
@@ -158,7 +158,7 @@ event_acts s d i t addr part word event ask env P test regs state ready pointed 
 
 runs_by : (s : Setting) → Declares s → Sound s.program → Fits s.program s.launch → (i : ℕ) (t : Target) (addr : Addr) (part : ℕ) (event : Event) (env : Env) (place : ℕ) (regs : Registers) (words : Words) (state : State) → PartReady s t addr part event → address s.program s.launch regs t addr ≡ Some words → Held s env place regs state → (b : Bool) → is_never addr part ≡ b → Has s.made place (if b then zeros_code s.context event else (test_code s.context env place t addr part ++ guard_code s.context no_register (place + test_size s.context env addr part) (test_id s.context env place addr part) t addr part event)) → RunsBy s i t part event (if b then zeros_code s.context event else (test_code s.context env place t addr part ++ guard_code s.context no_register (place + test_size s.context env addr part) (test_id s.context env place addr part) t addr part event)) (if b then zeros_env s.context event env else no_register) place regs words state
 runs_by s d sound fits i t addr part event env place regs words state ready at h true never has =
-    let done = zeros_done s d ready.zero ready.false_is i t env place regs state event ready.operands h has in
+    let done = zeros_done s d i env place regs state event ready.zeros h has in
     let none = never_none s regs t addr part words at never in
     record {
       outside = λ e. comes_of s i (length (zeros_code s.context event)) (zeros_code s.context event) (zeros_env s.context event env) place (missed event regs) state (omega arith) done;
@@ -171,7 +171,8 @@ runs_by s d sound fits i t addr part event env place regs words state ready at h
     let test : ℕ = test_id c env place addr part in
     let front : List Inst = test_code c env place t addr part in
     let back : List Inst = guard_code c no_register P test t addr part event in
-    let located = locate s d sound fits i t addr part event env place regs words state ready room at h (has_front s.made place front back has) in
+    let access = ready.access room in
+    let located = locate s d sound fits i t addr part env place regs words state ready.few access.limit access.address room at h (has_front s.made place front back has) in
     let laid = lay s t addr part event P test (has_at s.made (place + length front) P back (ap (λ k. place + k) (test_length c env place t addr part)) (has_back s.made place front back has)) in
     let m : ℕ = meet_at c no_register addr part event in
     let size : length (front ++ back) ≡ n + (m + 1) = omega (arith, length-append front back, test_length c env place t addr part, laid.size) in
@@ -180,11 +181,11 @@ runs_by s d sound fits i t addr part event env place regs words state ready at h
     record {
       outside = λ e. (let no_b = if_in_none located.b located.word (sym located.words_are ∙ e) in
           let test_is = located.tested.is ∙ ap (λ b. Some (Truth b)) no_b in
-          comes_at s i (length (front ++ back)) no_register (P + m + 1) (place + length (front ++ back)) (missed event regs) state end (then_comes s i n (m + 1) (length (front ++ back)) no_register (P + m + 1) (missed event regs) state t1 located.tested.ahead.leads (omega (arith, size)) (other_comes s d i t addr part event env P test regs t1 ready located.tested.ahead.held laid test_is)));
+          comes_at s i (length (front ++ back)) no_register (P + m + 1) (place + length (front ++ back)) (missed event regs) state end (then_comes s i n (m + 1) (length (front ++ back)) no_register (P + m + 1) (missed event regs) state t1 located.tested.ahead.leads (omega (arith, size)) (other_comes s d i t addr part event env P test regs t1 ready.zeros located.tested.ahead.held laid test_is)));
       inside = λ word ask e asks. (let in_b = if_in_some located.b located.word word (sym located.words_are ∙ e) in
           let test_is = located.tested.is ∙ ap (λ b. Some (Truth b)) in_b.0 in
           let pointed = subst (λ w. (p : ℕ) (t0 : State) → Held s no_register p regs t0 → Has s.made p (chain_code c no_register p t addr part) → Pointed s i p regs t0 t addr part w) in_b.1 (located.pointed in_b.0) in
-          let a = event_acts s d i t addr part word event ask env P test regs t1 ready pointed asks located.tested.ahead.held laid test_is in
+          let a = event_acts s d i t addr part word event ask env P test regs t1 access.operands ready.zeros pointed asks located.tested.ahead.held laid test_is in
           record {
             n = n + a.n;
             few = omega (arith, a.few, size);

@@ -21,7 +21,7 @@ use Rattle.spirv_code.specs.declared.key.Global.TheVariants as global
 use Rattle.spirv_code.specs.declared.event.Event.{Event}
 use Rattle.spirv_code.specs.declared.event.Event.TheVariants.{Load, Store, Atomic, Swap}
 use Rattle.spirv_code.specs.Reads.{Env, no_register}
-use Rattle.spirv_code.specs.Accesses.{part_code, part_env, scope_of}
+use Rattle.spirv_code.specs.Accesses.{is_never, part_code, part_env, scope_of}
 use Rattle.line_runs.specs.Held.{Setting, Held, Has, Uses, machine}
 use Rattle.line_runs.specs.Declared.{Declares}
 use Rattle.line_runs.specs.Ready.{Ready, IsSet}
@@ -31,36 +31,48 @@ use Rattle.line_runs.specs.Ready.{Ready, IsSet}
 -- the address fits its target, and the numbers of its test and of its chain are declared
 abbrev pub AddrReady : Setting → Target → Addr → ℕ → Type 0
 AddrReady s (target.Buffer r) (Byte at) part =
-    ((resource : Resource) × (slice_get s.program.resources r ≡ Some resource) × (resource.kind ≡ kind.Raw)) × Uses s (global.Buffer r) × Ready s no_register at ty.Int × Uses s (global.Number 2) × Uses s (global.Number part)
+    ((resource : Resource) × (slice_get s.program.resources r ≡ Some resource) × (resource.kind ≡ kind.Raw)) × Uses s (global.Buffer r) × Ready s no_register at ty.Int × Uses s (global.Number 2) × Uses s (global.Number 0) × Uses s (global.Number part)
 AddrReady s (target.Buffer r) (Element index at stride) part =
-    ((resource : Resource) × (slice_get s.program.resources r ≡ Some resource) × (resource.kind ≡ kind.Structured stride)) × Uses s (global.Buffer r) × Ready s no_register index ty.Int × Ready s no_register at ty.Int × Uses s (global.Number 2) × Uses s (global.Number part) × Uses s (global.Number (stride / 4)) × Uses s (global.Number (stride - (4 + 4 * part)))
+    ((resource : Resource) × (slice_get s.program.resources r ≡ Some resource) × (resource.kind ≡ kind.Structured stride)) × Uses s (global.Buffer r) × Ready s no_register index ty.Int × Ready s no_register at ty.Int × Uses s (global.Number 2) × Uses s (global.Number 0) × Uses s (global.Number part) × Uses s (global.Number (stride / 4)) × Uses s (global.Number (stride - (4 + 4 * part)))
 AddrReady s (target.Buffer r) (Row index) part =
-    ((resource : Resource) × (rows : ℕ) × (slice_get s.program.resources r ≡ Some resource) × (resource.kind ≡ kind.Constant rows)) × Uses s (global.Buffer r) × Ready s no_register index ty.Int × Uses s (global.Number (s.context.limit (target.Buffer r))) × Uses s (global.Number part)
+    ((resource : Resource) × (rows : ℕ) × (slice_get s.program.resources r ≡ Some resource) × (resource.kind ≡ kind.Constant rows)) × Uses s (global.Buffer r) × Ready s no_register index ty.Int × Uses s (global.Number (s.context.limit (target.Buffer r))) × Uses s (global.Number 0) × Uses s (global.Number part)
 AddrReady s (target.Shared a) (Index index) part =
     Uses s (global.Shared a) × Ready s no_register index ty.Int × Uses s (global.Number (s.context.limit (target.Shared a)))
 AddrReady s _ _ part = ⊥
 
+-- the event's operands can be read, and its type, scope and semantics are declared
 abbrev pub EventReady : Setting → Target → Event → Type 0
-EventReady s t (Load to) = IsSet s to ty.Int
+EventReady s t (Load to) = Uses s (global.Plain sort.Int)
 EventReady s t (Store value) = Ready s no_register value ty.Int
 EventReady s t (Atomic to op value) =
-    Ready s no_register value ty.Int × IsSet s to ty.Int × Uses s (global.Number (scope_of t))
+    Ready s no_register value ty.Int × Uses s (global.Number (scope_of t)) × Uses s (global.Number 0)
 EventReady s t (Swap old same compare value) =
-    Ready s no_register compare ty.Int × Ready s no_register value ty.Int × IsSet s old ty.Int × IsSet s same ty.Bool × Uses s (global.Number (scope_of t))
+    Ready s no_register compare ty.Int × Ready s no_register value ty.Int × Uses s (global.Number (scope_of t)) × Uses s (global.Number 0)
+
+-- each register that the event sets is set by it alone, and what it is set to out of range is declared
+abbrev pub ZerosReady : Setting → Event → Type 0
+ZerosReady s (Load to) = IsSet s to ty.Int × Uses s (global.Number 0)
+ZerosReady s (Store value) = Unit {0}
+ZerosReady s (Atomic to op value) = IsSet s to ty.Int × Uses s (global.Number 0)
+ZerosReady s (Swap old same compare value) =
+    IsSet s old ty.Int × IsSet s same ty.Bool × Uses s (global.Number 0) × Uses s (global.Truth false)
 
 -- the limit that a test compares with: the rows of a constant buffer, or the words of a groupshared array
 abbrev pub LimitIs : Setting → Target → Type 0
 LimitIs s (target.Buffer r) = s.context.limit (target.Buffer r) ≡ rows_at s.program (target.Buffer r)
 LimitIs s (target.Shared a) = s.context.limit (target.Shared a) ≡ slice_index s.program.shared a
 
-pub record PartReady (s : Setting) (t : Target) (addr : Addr) (part : ℕ) (event : Event) : Type 0 where
-  pub few : part ≤ 3
+-- what the test and the event of a part ask
+pub record AccessReady (s : Setting) (t : Target) (addr : Addr) (part : ℕ) (event : Event) : Type 0 where
   pub limit : LimitIs s t
   pub address : AddrReady s t addr part
   pub operands : EventReady s t event
-  pub zero : Uses s (global.Number 0)
-  pub false_is : Uses s (global.Truth false)
-  pub integers : Uses s (global.Plain sort.Int)
+
+-- a part for which an element has no room has no test and no event
+pub record PartReady (s : Setting) (t : Target) (addr : Addr) (part : ℕ) (event : Event) : Type 0 where
+  pub few : part ≤ 3
+  pub zeros : ZerosReady s event
+  pub access : is_never addr part ≡ false → AccessReady s t addr part event
 
 -- ---- what the program's part does
 

@@ -263,7 +263,7 @@ module _ (s : Setting) (d : Declares s) (sound : Sound s.program) (fits : Fits s
       let c = s.context in
       let word = λ (n : ℕ) (uses : Uses s (global.Number n)). ap as_word (fixed_here s t (number c n) (Word n) (d.numbers n uses)) in
       let operands : List ℕ = number c 2 ∷ number c (barrier_scope scope) ∷ number c (barrier_semantics uav shared) ∷ [] in
-      let does : act s.made s.bindings s.launch i (Fences true) operands t ≡ Acts (launch.Barrier true scope uav shared) (λ answer. next t) = ap (λ o. if is_some_at o 2 then barrier_step true (word_of s.made t (number c (barrier_scope scope))) (word_of s.made t (number c (barrier_semantics uav shared))) t else Wrong) (word 2 ready.group) ∙ ap (λ o. barrier_step true o (word_of s.made t (number c (barrier_semantics uav shared))) t) (word (barrier_scope scope) ready.scope_uses) ∙ ap (λ o. barrier_step true (Some (barrier_scope scope)) o t) (word (barrier_semantics uav shared) ready.semantics) ∙ barrier_gives true scope uav shared t ready.is in
+      let does : act s.made s.bindings s.launch i (Fences true) operands t ≡ Acts (launch.Barrier true scope uav shared) (λ answer. next t) = ap (λ o. if is_some_at o 2 then barrier_step true (word_of s.made t (number c (barrier_scope scope))) (word_of s.made t (number c (barrier_semantics uav shared))) t else Wrong) (word 2 (ready.group refl)) ∙ ap (λ o. barrier_step true o (word_of s.made t (number c (barrier_semantics uav shared))) t) (word (barrier_scope scope) ready.scope_uses) ∙ ap (λ o. barrier_step true (Some (barrier_scope scope)) o t) (word (barrier_semantics uav shared) ready.semantics) ∙ barrier_gives true scope uav shared t ready.is in
       acts_one s i t place 224 operands (Fences true) (Acts (launch.Barrier true scope uav shared) (λ answer. next t)) h.at has.0 refl does
   barrier_acts false scope uav shared env place regs t ready h has =
       let c = s.context in

@@ -1,5 +1,5 @@
 -- The states between two events of one block, in both machines.
-use Rattle.std.specs.Prelude.{◌≡◌, ◌≢◌, ℕ, suc, ◌+◌, ◌≤◌, Bool, List, [], ◌∷◌, length, drop, map, Option, Some, option_map, Contains}
+use Rattle.std.specs.Prelude.{◌≡◌, ◌≢◌, ℕ, suc, ◌+◌, ◌≤◌, Bool, true, List, [], ◌∷◌, length, drop, map, Option, Some, option_map, Contains}
 use Rattle.dxil_form.specs.declared.value.Operand.{Operand}
 use Rattle.dxil_form.specs.declared.value.Operand.TheVariants as operand
 use Rattle.dxil_form.specs.declared.value.Reg.{Reg}
@@ -39,7 +39,7 @@ IsApart addr to = (reg : Reg) (type : Ty) → Contains (in_address addr) (operan
 
 pub record BarrierReady (s : Setting) (sync : Bool) (scope : Scope) (uav shared : Bool) : Type 0 where
   pub is : IsBarrier sync scope uav shared
-  pub group : Uses s (global.Number 2)
+  pub group : sync ≡ true → Uses s (global.Number 2)
   pub scope_uses : Uses s (global.Number (barrier_scope scope))
   pub semantics : Uses s (global.Number (barrier_semantics uav shared))
 

@@ -109,7 +109,7 @@ read s d i env place regs t (operand.Reg reg own) type ready h has =
     by_env : (o p : Option ℕ) → env reg ≡ o → s.context.slot (kept reg own) ≡ p → Has s.made place (reg_code s.context place own o p) → Reading s i env place regs t (operand.Reg reg own) own (reg_size o p) (reg_id s.context place own o p)
     by_env (Some id) p e slot has =
         let x = h.known reg id e in
-        read_at_once s i env place regs t (operand.Reg reg own) own id (as_value x.0) h x.2 (h.typed set.0 set.1 reg own x.0 set.2 x.1) (λ y is. ap as_value (some_inj (sym x.1 ∙ is)))
+        read_at_once s i env place regs t (operand.Reg reg own) own id x.0 h x.1 (x.2 set.0 set.1 own set.2) x.3
     by_env None (Some variable) e slot has = read_variable s d i env place regs t reg own variable slot h has
     by_env None None e slot has = absurd (ready.can e slot)
 

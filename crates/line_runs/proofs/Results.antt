@@ -5,7 +5,7 @@ use Rattle.dxil_meaning.specs.Source.{Registers}
 use Rattle.spirv_meaning.specs.Target.{Value, State, fixed, or_result, value_of, with_value}
 use Rattle.spirv_code.specs.Plans.{result}
 use Rattle.spirv_code.specs.Reads.{Env}
-use Rattle.line_runs.specs.Held.{Setting, Held, as_value}
+use Rattle.line_runs.specs.Held.{Setting, Held}
 use Rattle.line_runs.specs.Declared.{Declares}
 use Rattle.line_runs.proofs.Tests.{none_some, nat_eq-eq, with_value_here, with_value_there}
 
@@ -40,7 +40,7 @@ pub gave_held : (s : Setting) (env : Env) (place : ℕ) (regs : Registers) (t : 
 gave_held s env place regs t w h =
     record {
       at = let e : suc t.at ≡ place + 1 = omega (arith, h.at) in e;
-      known = λ reg id is. let x = h.known reg id is in (x.0, x.1, gave_keeps s place w t (h.fresh place (omega arith)) id (as_value x.0) x.2);
+      known = λ reg id is. let x = h.known reg id is in (x.0, gave_keeps s place w t (h.fresh place (omega arith)) id x.0 x.1, x.2, x.3);
       stored = h.stored;
       next = h.next;
       typed = h.typed;

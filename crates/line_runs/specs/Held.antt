@@ -51,10 +51,10 @@ abbrev pub Has : Module → ℕ → List Inst → Type 0
 Has m place [] = Unit {0}
 Has m place (i ∷ is) = (slice_get m.insts place ≡ Some i) × Has m (place + 1) is
 
--- The instruction at the place comes next. A register that is known since the label has its value in a result; one with a variable has it there wherever it is set, and else some value of its type stands there; and no result stands ahead.
+-- The instruction at the place comes next. A register that is known since the label has its value in a result wherever it is set, and one with a variable has it there; where it is not set, some value of its type stands there. And no result stands ahead.
 pub record Held (s : Setting) (env : Env) (place : ℕ) (regs : Registers) (t : State) : Type 0 where
   pub at : t.at ≡ place
-  pub known : (reg : Reg) (id : ℕ) → env reg ≡ Some id → (x : source.Value) × (regs reg.value reg.part ≡ Some x) × (value_of s.made t id ≡ Some (as_value x))
+  pub known : (reg : Reg) (id : ℕ) → env reg ≡ Some id → (w : Value) × (value_of s.made t id ≡ Some w) × ((b : ℕ) (spot : Spot) (type : Ty) → Sets s.program b spot reg type → IsOf type w) × ((x : source.Value) → regs reg.value reg.part ≡ Some x → w ≡ as_value x)
   pub stored : (reg : Reg) (type : Ty) (id : ℕ) → s.context.slot (kept reg type) ≡ Some id → (w : Value) × (t.locals id ≡ Some w) × IsOf type w × ((x : source.Value) → regs reg.value reg.part ≡ Some x → w ≡ as_value x)
   pub next : (reg : Reg) (type : Ty) (id : ℕ) → s.context.slot (coming reg type) ≡ Some id → (w : Value) × (t.locals id ≡ Some w) × IsOf type w
   pub typed : (b : ℕ) (spot : Spot) (reg : Reg) (type : Ty) (x : source.Value) → Sets s.program b spot reg type → regs reg.value reg.part ≡ Some x → IsOf type (as_value x)

@@ -12,4 +12,4 @@ pub use laws::{
     sites_begin,
 };
 pub use rows::worked_rows;
-pub use site::site_of;
+pub use site::{first_word, site_of, write_name};

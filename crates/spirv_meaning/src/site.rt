@@ -50,7 +50,7 @@ pub fn site_of(m: &Module, k: u32) -> Option<u32>
 }
 
 /// Writes `b` and the decimal number at the end of the bytes, and answers where they begin.
-fn write_name(text: &mut [u8; 11], k: u32) -> usize
+pub fn write_name(text: &mut [u8; 11], k: u32) -> usize
     ensures within { result ≤ 11 }
     ensures name { drop result text.new ≡ block_text k }
 {
@@ -141,7 +141,7 @@ fn spells(text: &[u32], name: &[u8]) -> bool
 }
 
 /// The first four bytes as a word, the least significant first; zeros stand for those that are missing.
-fn first_word(name: &[u8]) -> u32
+pub fn first_word(name: &[u8]) -> u32
     ensures { result ≡ word_of name.now }
 {
     let byte = |at: usize| name.get(at).map_or(0, |b| u32::from(*b));
