@@ -9,4 +9,5 @@ mod reads;
 mod settled;
 mod slots;
 
+pub use reads::{OperandList, keep_end, keep_line};
 pub use slots::{CrossSlot, CrossSlotList, PhiSlot, PhiSlotList, Slots, demote};

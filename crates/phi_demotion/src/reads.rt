@@ -6,7 +6,7 @@ use dx_base::{List, OutOfMemory};
 use dxil_form::{Addr, Instr, Operand, Term};
 
 /// Operands that are read.
-pub(crate) type OperandList = List<Operand>;
+pub type OperandList = List<Operand>;
 
 /// Adds operands.
 fn keep(list: &mut OperandList, operands: &[Operand]) -> Result<(), OutOfMemory>
@@ -73,7 +73,7 @@ fn keep_values(
 }
 
 /// Adds the operands that an instruction may read.
-pub(crate) fn keep_line(list: &mut OperandList, instr: &Instr) -> Result<(), OutOfMemory>
+pub fn keep_line(list: &mut OperandList, instr: &Instr) -> Result<(), OutOfMemory>
     ensures { OnOk result (list.new ≡ list.old ++ reads instr.now) }
 {
     match *instr {
@@ -119,7 +119,7 @@ pub(crate) fn keep_line(list: &mut OperandList, instr: &Instr) -> Result<(), Out
 }
 
 /// Adds the operands of a terminator.
-pub(crate) fn keep_end(list: &mut OperandList, term: &Term) -> Result<(), OutOfMemory>
+pub fn keep_end(list: &mut OperandList, term: &Term) -> Result<(), OutOfMemory>
     ensures { OnOk result (list.new ≡ list.old ++ map (λ a. a.item) (term_operands term.now)) }
 {
     match term {

@@ -6,13 +6,15 @@ ghost use Rattle.spirv_emit.specs.Scenes.{context_in};
 
 use crate::code::Code;
 use dxil_form::{Program, Reg, Target, Ty};
+use phi_entries::Entries;
 use spirv_code::{Global, Slot, Sort, limit_of};
 use spirv_table::Tables;
 
-/// The program that is lowered, and what its module declares.
+/// The program that is lowered, what its phis take, and what its module declares.
 #[derive(Clone, Copy)]
 pub struct Scene<'a> {
     pub program: &'a Program,
+    pub entries: &'a Entries,
     pub tables: &'a Tables,
 }
 

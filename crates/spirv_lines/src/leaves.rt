@@ -1,14 +1,15 @@
-ghost use Rattle.std.specs.Prelude.{◌≡◌, ◌++◌, ◌+◌, IfOk, OnOk, length};
+ghost use Rattle.std.specs.Prelude.{◌≡◌, ◌++◌, ◌+◌, ◌<◌, ◌^◌, IfOk, OnOk, Some, length, slice_get};
 ghost use Rattle.spirv_code.specs.Leaves.{block_code, block_env, edge_code, edges_code, entry_operand, group_code, group_env, inner_code, leave_code, next_blocks, phi_code};
 ghost use Rattle.spirv_code.specs.Plans.{result as id_at};
 ghost use Rattle.spirv_code.specs.Reads.{no_register, read_size, with_id};
 ghost use Rattle.spirv_table.specs.Known.{env_of};
 ghost use Rattle.spirv_table.specs.Tables.{AreFew};
 ghost use Rattle.spirv_emit.specs.Scenes.{context_in};
+ghost use Rattle.spirv_lines.specs.Entered.{HasEntries, phi_at};
 
 use crate::lines::write_lines;
 use dx_base::OutOfMemory;
-use dxil_form::{Block, Entry, Operand, Phi, Ty};
+use dxil_form::{Block, Operand, Phi};
 use spirv_emit::{Code, Scene, coming_slot, kept_slot, read};
 use spirv_table::Known;
 use spv_form::op;
@@ -46,48 +47,64 @@ fn write_phis(
     Ok(())
 }
 
-/// The operand of the first entry for a block.
-fn entry_of(from: u32, ty: Ty, entries: &[Entry]) -> Operand
-    ensures { result ≡ entry_operand from ty entries.now }
+/// What the n-th phi of block k takes from a block before it.
+fn entry_for(s: &Scene, k: u32, n: u32, from: u32, phi: &Phi) -> Operand
+    requires entries { HasEntries s.now }
+    requires stands { phi_at (slice_get s.now.program.now.blocks k) n ≡ Some phi.now }
+    ensures { result ≡ entry_operand from phi.now.ty phi.now.entries }
 {
-    for entry in entries {
-        if entry.from == from {
-            return entry.value;
-        }
+    match s.entries.get(k, n, from) {
+        Some(value) => value,
+        None => Operand::Undef(phi.ty),
     }
-    Operand::Undef(ty)
 }
 
-/// Leaves what a phi of the next block takes.
-fn leave(code: &mut Code, s: &Scene, known: &Known, from: u32, phi: &Phi) -> Result<(), OutOfMemory>
-    requires { AreFew s.now.tables.now }
+/// Leaves what the n-th phi of the next block, block k, takes.
+fn leave(
+    code: &mut Code,
+    s: &Scene,
+    known: &Known,
+    from: u32,
+    k: u32,
+    n: u32,
+    phi: &Phi,
+) -> Result<(), OutOfMemory>
+    requires few { AreFew s.now.tables.now }
+    requires entries { HasEntries s.now }
+    requires stands { phi_at (slice_get s.now.program.now.blocks k) n ≡ Some phi.now }
     ensures code { OnOk result (code.new ≡ code.old ++ leave_code (context_in s.now) (env_of known.now) (length code.old) phi.now (entry_operand from phi.now.ty phi.now.entries)) }
     ensures size { OnOk result (length code.new ≡ length code.old + (read_size (context_in s.now) (env_of known.now) (entry_operand from phi.now.ty phi.now.entries) + 1)) }
 {
-    let value = entry_of(from, phi.ty, phi.entries.as_slice());
+    let value = entry_for(s, k, n, from, phi);
     let id = read(code, s, known, value)?;
     let coming = s.variable(coming_slot(phi.to, phi.ty));
     code.push(op::STORE, &[coming, id])
 }
 
-/// Leaves what the phis of a block take.
+/// Leaves what the phis of block k take.
+#[tactic(auto, using(crate::proofs::Taken::stands_at))]
 fn write_edge(
     code: &mut Code,
     s: &Scene,
     known: &Known,
     from: u32,
-    phis: &[Phi],
+    k: u32,
+    block: &Block,
 ) -> Result<(), OutOfMemory>
-    requires { AreFew s.now.tables.now }
-    ensures { OnOk result (code.new ≡ code.old ++ edge_code (context_in s.now) (env_of known.now) (length code.old) from phis.now) }
+    requires few { AreFew s.now.tables.now }
+    requires entries { HasEntries s.now }
+    requires stands { slice_get s.now.program.now.blocks k ≡ Some block.now }
+    requires words { length block.now.phis < 2 ^ 32 }
+    ensures { OnOk result (code.new ≡ code.old ++ edge_code (context_in s.now) (env_of known.now) (length code.old) from block.now.phis) }
 {
-    for phi in phis {
-        leave(code, s, known, from, phi)?;
+    for (n, phi) in block.phis.as_slice().iter().enumerate() {
+        leave(code, s, known, from, k, n as u32, phi)?;
     }
     Ok(())
 }
 
 /// Leaves what the phis of each of the next blocks take.
+#[tactic(auto, using(crate::proofs::Taken::few_phis))]
 fn write_edges(
     code: &mut Code,
     s: &Scene,
@@ -95,12 +112,13 @@ fn write_edges(
     from: u32,
     targets: &[u32],
 ) -> Result<(), OutOfMemory>
-    requires { AreFew s.now.tables.now }
+    requires few { AreFew s.now.tables.now }
+    requires entries { HasEntries s.now }
     ensures { OnOk result (code.new ≡ code.old ++ edges_code (context_in s.now) (env_of known.now) (length code.old) from targets.now) }
 {
     for k in targets {
         if let Some(block) = s.program.blocks.get(*k as usize) {
-            write_edge(code, s, known, from, block.phis.as_slice())?;
+            write_edge(code, s, known, from, *k, block)?;
         }
     }
     Ok(())
@@ -132,6 +150,7 @@ pub fn write_block(
     targets: &[u32],
 ) -> Result<Known, OutOfMemory>
     requires few { AreFew s.now.tables.now }
+    requires entries { HasEntries s.now }
     requires targets { targets.now ≡ next_blocks block.now.term }
     ensures code { OnOk result (code.new ≡ code.old ++ block_code (context_in s.now) (length code.old) from block.now) }
     ensures env { IfOk result (λ known. env_of known ≡ block_env (context_in s.now) (length code.old) block.now) }
