@@ -1,0 +1,14 @@
+pub mod Counting
+pub mod CountingRows
+pub mod Declarations
+pub mod Declares
+pub mod InnerLines
+pub mod InnerRows
+pub mod Labels
+pub mod Regions
+pub mod Searches
+pub mod Sites
+pub mod Spread
+pub mod Tabled
+pub mod Tables
+pub mod Wiring

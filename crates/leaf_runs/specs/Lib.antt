@@ -1,0 +1,4 @@
+pub mod Begun
+pub mod Between
+pub mod BlockReady
+pub mod Laws
