@@ -1,0 +1,10 @@
+pub mod Lists
+pub mod Shapes
+pub mod Opcodes
+pub mod Operands
+pub mod Lines
+pub mod Chains
+pub mod Checks
+pub mod Events
+pub mod Parts
+pub mod Whole
