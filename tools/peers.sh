@@ -1,8 +1,8 @@
 #!/usr/bin/env bash
 # What other programs say of this one's files. Each check is skipped where its tool is missing.
 #
-# spirv-val (Debian's spirv-tools) must accept the words of the sample shader, and small modules that `check` accepts. llvm-bcanalyzer (Debian's llvm-14)
-# must count as many fields in each record of the sample's bitcode as `show` does.
+# spirv-val (Debian's spirv-tools) must accept the words of the sample shader, small modules that `check` accepts, and the modules of the programs of
+# lower_tests. llvm-bcanalyzer (Debian's llvm-14) must count as many fields in each record of the sample's bitcode as `show` does.
 set -u
 cd "$(dirname "$0")/.." || exit 1
 program=crates/dxil_cli/out/dxil_cli
@@ -26,6 +26,18 @@ if command -v spirv-val >/dev/null 2>&1; then
       spirv-val --target-env vulkan1.3 "$folder/m.spv" || exit 1
     done
     echo "spirv-val: accepts the modules that check accepts"
+    lowered=crates/lower_tests/out/lower_tests
+    if [ -x "$lowered" ]; then
+      mkdir "$folder/lowered" || exit 1
+      "$lowered" words | python3 tools/write_modules.py "$folder/lowered" || exit 1
+      for module in "$folder"/lowered/*-1.6-*.spv; do
+        spirv-val --target-env vulkan1.3 "$module" || exit 1
+      done
+      for module in "$folder"/lowered/*-1.3-*.spv; do
+        spirv-val --target-env vulkan1.1 "$module" || exit 1
+      done
+      echo "spirv-val: accepts the modules of lower_tests, $(ls "$folder/lowered" | wc -l) of them"
+    fi
   fi
 else
   echo "spirv-val: skipped"
