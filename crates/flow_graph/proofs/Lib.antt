@@ -6,9 +6,10 @@ pub mod Steps
 pub mod Edges
 pub mod Rewritten
 pub mod Marking
-pub mod Sources
+pub mod RowLists
 pub mod Walking
 pub mod Backwards
+pub mod RowWalks
 pub mod Choice
 pub mod Placing
 pub mod Made

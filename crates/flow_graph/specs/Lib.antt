@@ -3,3 +3,4 @@ pub mod Changes
 pub mod Shapes
 pub mod Given
 pub mod Walked
+pub mod Rows

@@ -5,10 +5,14 @@
 //! The laws of the two rewrites over plain graphs are those of `laws`.
 #![tactic(auto)]
 
+mod along;
 mod cells;
 mod linked;
 mod making;
+mod rows;
+mod walker;
 mod walks;
 
 pub use graph_laws as laws;
 pub use linked::{Edge, Graph, MAX_EDGES, MAX_NODES};
+pub use walker::Walks;

@@ -77,9 +77,9 @@ fn open(alloc: Global, partial: Partial) -> Result<Builder, OutOfMemory>
 {
     let blocks = blocks_of(alloc, partial.roots.as_slice())?;
     let places = places_of(alloc, partial.roots.as_slice())?;
-    let mut graph = partial.graph;
+    let graph = partial.graph;
     let firsts = sole_preds(alloc, &graph, blocks.len())?;
-    let heads = heads_of(alloc, &mut graph, blocks.len())?;
+    let heads = heads_of(alloc, &graph, blocks.len())?;
     Ok(Builder {
         list: partial.list,
         blocks,

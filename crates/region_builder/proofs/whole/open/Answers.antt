@@ -38,21 +38,16 @@ heads_of-requires-clause-formed c = let (p, is) = c.requires in graph_formed p i
 pub heads_of-requires-clause-all_reached : goal.heads_of-requires-clause-all_reached
 heads_of-requires-clause-all_reached c = let (p, is) = c.requires in graph_reached p is.sound is.blocks is.reachable is.few (plain c.args.partial.graph) is.graph
 
-pub heads_of-requires-clause-live : goal.heads_of-requires-clause-live
-heads_of-requires-clause-live c i l =
-    let (p, is) = c.requires in
-    let (_, live) = started_live p c.args.partial is c.in_ok-blocks.blocks.items (blocks_are (goal.at.heads_of-requires-clause-live c).In_ok-places) in live i (omega arith)
-
 pub returns-clause-built : goal.returns-clause-built
 returns-clause-built c p is =
     let d = (goal.at.returns-clause-built c).In_ok-places in
     let n : length c.in_ok-firsts.firsts.items ≡ length c.in_ok-blocks.blocks.items = omega (arith, c.in_ok-firsts.ensures.len, c.len.ensures) in
     let m : c.len-2.result ≡ length c.in_ok-blocks.blocks.items = omega (arith, c.len-2.ensures) in
     let P : ℕ → Type 0 = λ k. AreRanks (plain c.args.partial.graph) k c.in_ok-heads.heads.ranks.items in
-    started_built p c.args.partial is _ (blocks_are d) (places_are d) refl c.heads_of.ensures.same n c.in_ok-firsts.ensures.sole (c.in_ok-heads.ensures.count ∙ m) c.in_ok-heads.ensures.exact
+    started_built p c.args.partial is _ (blocks_are d) (places_are d) refl refl n c.in_ok-firsts.ensures.sole (c.in_ok-heads.ensures.count ∙ m) c.in_ok-heads.ensures.exact
     (subst P m c.in_ok-heads.ensures.ranks)
 
 pub returns-clause-bare : goal.returns-clause-bare
 returns-clause-bare c =
     let d = (goal.at.returns-clause-bare c).In_ok-places in
-    let (p, is) = c.requires in started_bare p c.args.partial is _ (blocks_are d) (places_are d) refl c.heads_of.ensures.same
+    let (p, is) = c.requires in started_bare p c.args.partial is _ (blocks_are d) (places_are d) refl refl
