@@ -1,4 +1,4 @@
-//! Tests of regions, and the plain programs that they are made of.
+//! Tests of regions, and the regions of programs of few blocks.
 #![tactic(auto)]
 
 #[cfg(test)]
@@ -6,7 +6,6 @@ mod follow;
 #[cfg(test)]
 mod graphs;
 mod nesting;
-mod plain;
 #[cfg(test)]
 mod show;
 #[cfg(test)]
@@ -15,4 +14,3 @@ mod tests;
 mod wired;
 
 pub use nesting::nested;
-pub use plain::plain_program;

@@ -1,11 +1,11 @@
 use crate::follow::{first_leaf, leaf_of, next_leaf, parents};
 use crate::graphs::{lists, random, reached};
 use crate::nesting::nested;
-use crate::plain::plain_program;
 use crate::show::show;
 use crate::wired::fits;
 use dispatch_loop::all;
 use dxil_form::{Region, Regions};
+use plain_programs::plain_program;
 use std::alloc::Global;
 use std::process::Abort;
 use std::test::Fail;

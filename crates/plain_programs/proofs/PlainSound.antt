@@ -1,7 +1,6 @@
 -- A program of plain blocks is sound.
-use Rattle.std.proofs.Common.{◌≡◌, inl, inr, ℕ, zero, suc, ◌+◌, ◌*◌, ◌<◌, ◌≤◌, true, List, [], ◌∷◌, ◌++◌, length, get_or, map, eqb, Option, Some, None, refl, sym, ap, subst, ◌∙◌, arith, rules, length-append}
+use Rattle.std.proofs.Common.{◌≡◌, inl, inr, ℕ, zero, suc, ◌+◌, ◌<◌, ◌≤◌, true, List, [], ◌∷◌, ◌++◌, length, get_or, map, eqb, Option, Some, None, refl, sym, ap, subst, ◌∙◌, arith, rules, length-append}
 use Rattle.std.proofs.lemmas.Bool.{cases_eq, or_cases, eqb-true, false≢true}
-use Rattle.std.proofs.Math.Nat.{mul-suc}
 use Rattle.std.proofs.lemmas.Option.{none-some, same_Some, some_pair_parts, slice_get_within}
 use Rattle.std.specs.List.{slice_get}
 use Rattle.dxil_form.specs.declared.value.Ty.{Ty}
@@ -19,14 +18,14 @@ use Rattle.dxil_form.specs.declared.program.Resource.{Resource}
 use Rattle.dxil_form.specs.Branches.{branches, targets_in, has}
 use Rattle.dxil_form.specs.Registers.{Typed, Spot, Sets, SetsAt, term_operands}
 use Rattle.dxil_form.specs.Registers.Spot.{At_phi, At_line}
-use Rattle.dxil_form.specs.Sound.{Sound, PhiAt, LineAt, EndAt, HasType, TermFits, LocalFits, lines_of, cases_of, entries_of, entries_in}
+use Rattle.dxil_form.specs.Sound.{Sound, PhiAt, LineAt, EndAt, HasType, TermFits, LocalFits, lines_of, cases_in, cases_of, entries_of, entries_in}
 use Rattle.region_laws.proofs.Places.{front, last, cases_last}
-use Rattle.region_tests.specs.Plain.{AreTargets, AreNumbered, IsPlainTerm, IsPlain, ArePlain}
+use Rattle.plain_programs.specs.Plain.{AreTargets, AreNumbered, IsPlainTerm, IsPlain, ArePlain}
 
 no_item : {A : Type 0} (xs : List A) (n : ℕ) (x : A) → xs ≡ [] → slice_get xs n ≡ Some x → ⊥
 no_item {A} xs n x e h = let P : List A → Type 0 = λ l. slice_get l n ≡ Some x in none-some x (subst P e h)
 
-module _ (blocks : List Block) (most : ℕ) (some : 1 ≤ length blocks) (few : length blocks ≤ 8192) (room : most * length blocks ≤ 65536) (plain : ArePlain (length blocks) most blocks) where
+module _ (blocks : List Block) (some : 1 ≤ length blocks) (few : length blocks ≤ 8192) (room : cases_of blocks ≤ 65536) (plain : ArePlain (length blocks) blocks) where
   abbrev program : List ℕ → Program
   program local = record { local = local; resources = []; shared = []; blocks = blocks }
 
@@ -34,7 +33,7 @@ module _ (blocks : List Block) (most : ℕ) (some : 1 ≤ length blocks) (few : 
     no_set : (b : ℕ) (spot : Spot) (reg : Reg) (ty : Ty) → Sets (program local) b spot reg ty → ⊥
     no_set b spot reg ty s = at spot s.sets
       where
-        is : IsPlain (length blocks) most s.block
+        is : IsPlain (length blocks) s.block
         is = plain b s.block s.stands
 
         at : (spot : Spot) → SetsAt s.block spot reg ty → ⊥
@@ -63,7 +62,7 @@ module _ (blocks : List Block) (most : ℕ) (some : 1 ≤ length blocks) (few : 
     end_fits : (b : ℕ) (term : Term) → EndAt (program local) b term → TermFits term
     end_fits b term h = let P : Term → Type 0 = λ z. TermFits z in subst P h.ends (plain b h.block h.stands).ends.fits
 
-    lines_count : (l : List Block) → ((b : ℕ) (block : Block) → slice_get l b ≡ Some block → IsPlain (length blocks) most block) → lines_of l ≡ length l
+    lines_count : (l : List Block) → ((b : ℕ) (block : Block) → slice_get l b ≡ Some block → IsPlain (length blocks) block) → lines_of l ≡ length l
     lines_count [] h = refl
     lines_count (block ∷ l) h =
         let is = h 0 block refl in
@@ -71,14 +70,7 @@ module _ (blocks : List Block) (most : ℕ) (some : 1 ≤ length blocks) (few : 
         let y = ap (λ (z : List Instr). length z) is.no_lines in
         let n = lines_count l (λ b c k. h (suc b) c k) in omega arith
 
-    cases_count : (l : List Block) → ((b : ℕ) (block : Block) → slice_get l b ≡ Some block → IsPlain (length blocks) most block) → cases_of l ≤ most * length l
-    cases_count [] h = omega arith
-    cases_count (block ∷ l) h =
-        let m = (h 0 block refl).ends.few in
-        let n = cases_count l (λ b c k. h (suc b) c k) in
-        let e = mul-suc most (length l) in omega arith
-
-    entries_count : (l : List Block) → ((b : ℕ) (block : Block) → slice_get l b ≡ Some block → IsPlain (length blocks) most block) → entries_of l ≡ 0
+    entries_count : (l : List Block) → ((b : ℕ) (block : Block) → slice_get l b ≡ Some block → IsPlain (length blocks) block) → entries_of l ≡ 0
     entries_count [] h = refl
     entries_count (block ∷ l) h =
         let x = ap (λ (z : List Phi). entries_in z) (h 0 block refl).no_phis in
@@ -103,25 +95,25 @@ module _ (blocks : List Block) (most : ℕ) (some : 1 ≤ length blocks) (few : 
       counts = record {
         blocks = few;
         instructions = (let n = lines_count blocks plain in omega arith);
-        cases = (let n = cases_count blocks plain in omega arith);
+        cases = room;
         entries = (let n = entries_count blocks plain in omega arith);
         resources = omega arith;
       };
     }
 
 -- the same of empty lists by other names
-pub sound_of : (blocks : List Block) (most : ℕ) → 1 ≤ length blocks → length blocks ≤ 8192 → most * length blocks ≤ 65536 → ArePlain (length blocks) most blocks
+pub sound_of : (blocks : List Block) → 1 ≤ length blocks → length blocks ≤ 8192 → cases_of blocks ≤ 65536 → ArePlain (length blocks) blocks
     → (local : List ℕ) (resources : List Resource) (shared : List ℕ) → local ≡ 1 ∷ 1 ∷ 1 ∷ [] → resources ≡ [] → shared ≡ []
     → Sound (record { local = local; resources = resources; shared = shared; blocks = blocks })
-sound_of blocks most some few room plain local resources shared x y z =
+sound_of blocks some few room plain local resources shared x y z =
     let P : List Resource → Type 0 = λ r. Sound (record { local = local; resources = r; shared = shared; blocks = blocks }) in
     let Q : List ℕ → Type 0 = λ r. Sound (record { local = local; resources = []; shared = r; blocks = blocks }) in
-    subst P (sym y) (subst Q (sym z) (plain_sound blocks most some few room plain local x))
+    subst P (sym y) (subst Q (sym z) (plain_sound blocks some few room plain local x))
 
 -- ---- the terminators
 
-pub ret_plain : (count most : ℕ) → IsPlainTerm count most Ret
-ret_plain count most = record { goes = λ k t. absurd (false≢true t); reads = λ n a h. absurd (none-some a h); fits = tt; few = omega arith }
+pub ret_plain : (count : ℕ) → IsPlainTerm count Ret
+ret_plain count = record { goes = λ k t. absurd (false≢true t); reads = λ n a h. absurd (none-some a h); fits = tt }
 
 pub numbered_on : (ks : List ℕ) (n : ℕ) (cases : List (ℕ × ℕ)) → AreNumbered ks n cases → AreNumbered ks (n + 1) (cases ++ (n, get_or ks n 0) ∷ [])
 numbered_on ks n cases are = record {
@@ -138,7 +130,7 @@ numbered_on ks n cases are = record {
 pub none_numbered : (ks : List ℕ) → AreNumbered ks 0 []
 none_numbered ks = record { count = refl; each = λ j l. absurd (omega arith) }
 
-module _ (count most : ℕ) (ks : List ℕ) (are : AreTargets count ks) (cases : List (ℕ × ℕ)) (numbered : AreNumbered ks (length ks) cases) (some : 1 ≤ length ks) (few : length ks ≤ most)
+module _ (count : ℕ) (ks : List ℕ) (are : AreTargets count ks) (cases : List (ℕ × ℕ)) (numbered : AreNumbered ks (length ks) cases) (some : 1 ≤ length ks)
     (d : ℕ) (first : d ≡ get_or ks 0 0) where
   target_of : (l : List (ℕ × ℕ)) (k : ℕ) → has k (map (λ (c : ℕ × ℕ). c.1) l) ≡ true → (i : ℕ) × (j : ℕ) × (slice_get l i ≡ Some (j, k))
   target_of [] k t = absurd (false≢true t)
@@ -167,12 +159,11 @@ module _ (count most : ℕ) (ks : List ℕ) (are : AreTargets count ks) (cases :
       let m = slice_get_within cases j c h in
       let x : c ≡ (j, get_or ks j 0) = same_Some c (j, get_or ks j 0) (sym h ∙ numbered.each j (omega arith)) in ap (λ (z : ℕ × ℕ). z.0) x
 
-  pub switch_plain : IsPlainTerm count most (Switch (operand.Int 0) d cases)
+  pub switch_plain : IsPlainTerm count (Switch (operand.Int 0) d cases)
   switch_plain = record {
     goes = switch_goes;
     reads = reads;
     fits = λ j k x y h i q. sym (value_is j x h) ∙ q ∙ value_is k y i;
-    few = (let n = numbered.count in omega arith);
   }
     where
       reads : (n : ℕ) (a : Typed Operand) → slice_get (term_operands (Switch (operand.Int 0) d cases)) n ≡ Some a → (a.item ≡ operand.Int 0) × (a.ty ≡ Int)
@@ -181,11 +172,15 @@ module _ (count most : ℕ) (ks : List ℕ) (are : AreTargets count ks) (cases :
 
 -- ---- the blocks
 
-pub none_plain : (count most : ℕ) → ArePlain count most []
-none_plain count most b block h = absurd (none-some block h)
+pub none_plain : (count : ℕ) → ArePlain count []
+none_plain count b block h = absurd (none-some block h)
 
-pub plain_on : (count most : ℕ) (blocks : List Block) (block : Block) → ArePlain count most blocks → IsPlain count most block → ArePlain count most (blocks ++ block ∷ [])
-plain_on count most blocks block are is b x h = elim (cases_last blocks block b x h) [
+pub plain_on : (count : ℕ) (blocks : List Block) (block : Block) → ArePlain count blocks → IsPlain count block → ArePlain count (blocks ++ block ∷ [])
+plain_on count blocks block are is b x h = elim (cases_last blocks block b x h) [
   | inl k ↦ are b x k
-  | inr (_, q) ↦ (let P : Block → Type 0 = λ z. IsPlain count most z in subst P q is)
+  | inr (_, q) ↦ (let P : Block → Type 0 = λ z. IsPlain count z in subst P q is)
 ]
+
+pub cases_on : (blocks : List Block) (block : Block) → cases_of (blocks ++ block ∷ []) ≡ cases_of blocks + cases_in block.term
+cases_on [] block = omega arith
+cases_on (x ∷ blocks) block = let e = cases_on blocks block in omega arith

@@ -7,7 +7,7 @@ use Rattle.dxil_form.specs.declared.block.Block.{Block}
 use Rattle.dxil_form.specs.declared.block.Term.{Term}
 use Rattle.dxil_form.specs.Branches.{targets, has}
 use Rattle.dxil_form.specs.Registers.{Typed, term_operands}
-use Rattle.dxil_form.specs.Sound.{TermFits, cases_in}
+use Rattle.dxil_form.specs.Sound.{TermFits}
 
 -- each number is that of a block other than block 0
 abbrev pub AreTargets : ℕ → List ℕ → Type 0
@@ -18,17 +18,16 @@ pub record AreNumbered (ks : List ℕ) (n : ℕ) (cases : List (ℕ × ℕ)) : T
   pub count : length cases ≡ n
   pub each : (i : ℕ) → i < n → slice_get cases i ≡ Some (i, slice_index ks i)
 
--- the terminator goes to blocks other than block 0, has few cases, and reads no register
-pub record IsPlainTerm (count most : ℕ) (term : Term) : Type 0 where
+-- the terminator goes to blocks other than block 0, and reads no register
+pub record IsPlainTerm (count : ℕ) (term : Term) : Type 0 where
   pub goes : (k : ℕ) → has k (targets term) ≡ true → (1 ≤ k) × (k < count)
   pub reads : (n : ℕ) (a : Typed Operand) → slice_get (term_operands term) n ≡ Some a → (a.item ≡ operand.Int 0) × (a.ty ≡ Int)
   pub fits : TermFits term
-  pub few : cases_in term ≤ most
 
-pub record IsPlain (count most : ℕ) (block : Block) : Type 0 where
+pub record IsPlain (count : ℕ) (block : Block) : Type 0 where
   pub no_phis : block.phis ≡ []
   pub no_lines : block.instrs ≡ []
-  pub ends : IsPlainTerm count most block.term
+  pub ends : IsPlainTerm count block.term
 
-abbrev pub ArePlain : ℕ → ℕ → List Block → Type 0
-ArePlain count most blocks = (b : ℕ) (block : Block) → slice_get blocks b ≡ Some block → IsPlain count most block
+abbrev pub ArePlain : ℕ → List Block → Type 0
+ArePlain count blocks = (b : ℕ) (block : Block) → slice_get blocks b ≡ Some block → IsPlain count block

@@ -1,7 +1,7 @@
 use Rattle.std.proofs.Common.{◌≡◌, ◌+◌, ℕ, List, length, subst, sym, arith}
-use Rattle.region_tests.specs.Plain.{AreNumbered}
-use Rattle.region_tests.proofs.PlainSound.{numbered_on, none_numbered}
-use Rattle.region_tests.proofs.plain.numbered.Goals as goal
+use Rattle.plain_programs.specs.Plain.{AreNumbered}
+use Rattle.plain_programs.proofs.PlainSound.{numbered_on, none_numbered}
+use Rattle.plain_programs.proofs.plain.numbered.Goals as goal
 
 pub loop-i-init : goal.loop-i-init
 loop-i-init c = let P : List (ℕ × ℕ) → Type 0 = λ l. AreNumbered c.args.targets.now 0 l in subst P (sym c.new-cases.ensures) (none_numbered c.args.targets.now)

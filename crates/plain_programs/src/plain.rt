@@ -1,22 +1,16 @@
 //! Programs of blocks without instructions.
 
-ghost use Rattle.std.specs.Prelude.{◌≡◌, ◌↔◌, ◌<◌, ◌≤◌, ◌*◌, ◌^◌, length, ◌++◌, ◌∷◌, [], IfOk, OnOk, IsTrue};
+ghost use Rattle.std.specs.Prelude.{◌≡◌, ◌↔◌, ◌<◌, ◌≤◌, ◌^◌, length, ◌++◌, ◌∷◌, [], IfOk, OnOk, IsTrue};
 ghost use Rattle.std.specs.Option.{IfSome};
-ghost use Rattle.dxil_form.specs.Sound.{Sound};
-ghost use Rattle.region_tests.specs.Plain.{AreTargets, AreNumbered, IsPlainTerm, IsPlain, ArePlain};
+ghost use Rattle.dxil_form.specs.Sound.{Sound, cases_in, cases_of};
+ghost use Rattle.plain_programs.specs.Plain.{AreTargets, AreNumbered, IsPlainTerm, IsPlain, ArePlain};
 
 use dx_base::{Cases, List, OutOfMemory};
 use dxil_form::{Block, BlockList, Operand, Program, Term};
 use std::alloc::Global;
 
-/// The most targets of one block in a program of so many blocks: all blocks together have at most 65,536.
-fn most_targets(count: u32) -> usize
-    requires { count ≤ 8192 }
-    ensures room { result * count ≤ 65536 }
-    ensures few { result ≤ 160 }
-{
-    if count > 400 { 8 } else { 160 }
-}
+/// The most targets of all blocks of a program together.
+const MOST_TARGETS: usize = 65_536;
 
 /// Tells whether a number is that of a block other than block 0.
 fn is_target(count: u32, target: u32) -> bool
@@ -60,11 +54,11 @@ fn numbered(alloc: Global, targets: &[u32]) -> Result<Cases, OutOfMemory>
 }
 
 /// A terminator that may go to exactly these blocks.
-fn plain_term(alloc: Global, count: u32, most: usize, targets: &[u32]) -> Result<Term, OutOfMemory>
+fn plain_term(alloc: Global, count: u32, targets: &[u32]) -> Result<Term, OutOfMemory>
     requires targets { AreTargets count targets.now }
-    requires few { length targets.now ≤ most }
-    requires most { most ≤ 160 }
-    ensures { IfOk result (λ term. IsPlainTerm count most term) }
+    requires few { length targets.now ≤ MOST_TARGETS }
+    ensures plain { IfOk result (λ term. IsPlainTerm count term) }
+    ensures cases { IfOk result (λ term. cases_in term ≡ length targets.now) }
 {
     if targets.is_empty() {
         return Ok(Term::Ret);
@@ -79,18 +73,13 @@ fn plain_term(alloc: Global, count: u32, most: usize, targets: &[u32]) -> Result
 }
 
 /// A block that may go to exactly these blocks.
-fn plain_block(
-    alloc: Global,
-    count: u32,
-    most: usize,
-    targets: &[u32],
-) -> Result<Block, OutOfMemory>
+fn plain_block(alloc: Global, count: u32, targets: &[u32]) -> Result<Block, OutOfMemory>
     requires targets { AreTargets count targets.now }
-    requires few { length targets.now ≤ most }
-    requires most { most ≤ 160 }
-    ensures { IfOk result (λ block. IsPlain count most block) }
+    requires few { length targets.now ≤ MOST_TARGETS }
+    ensures plain { IfOk result (λ block. IsPlain count block) }
+    ensures cases { IfOk result (λ block. cases_in block.term ≡ length targets.now) }
 {
-    let term = plain_term(alloc, count, most, targets)?;
+    let term = plain_term(alloc, count, targets)?;
     Ok(Block {
         phis: List::new(alloc),
         instrs: List::new(alloc),
@@ -108,25 +97,26 @@ fn add_block(blocks: &mut BlockList, block: Block) -> Result<(), OutOfMemory>
     Ok(())
 }
 
-/// The blocks that may go to exactly the targets that are listed for each; None where some target is no block, or block 0, or there are more than `most` for one block.
+/// The blocks that may go to exactly the targets that are listed for each; None where some target is no block, or block 0, or there are too many targets.
 fn plain_blocks(
     alloc: Global,
     count: u32,
-    most: usize,
     targets: &[Vec<u32>],
 ) -> Result<Option<BlockList>, OutOfMemory>
     requires count { count ≡ length targets.now }
-    requires most { most ≤ 160 }
-    ensures plain { IfOk result (λ blocks. IfSome blocks (λ list. ArePlain count most list)) }
+    ensures plain { IfOk result (λ blocks. IfSome blocks (λ list. ArePlain count list)) }
     ensures len { IfOk result (λ blocks. IfSome blocks (λ list. length list ≡ count)) }
+    ensures few { IfOk result (λ blocks. IfSome blocks (λ list. cases_of list ≤ MOST_TARGETS)) }
 {
     let mut blocks: BlockList = List::new(alloc);
+    let mut left = MOST_TARGETS;
     for i in 0..targets.len() {
         let list = targets[i].as_slice();
-        if list.len() > most || !are_targets(count, list) {
+        if list.len() > left || !are_targets(count, list) {
             return Ok(None);
         }
-        let block = plain_block(alloc, count, most, list)?;
+        left -= list.len();
+        let block = plain_block(alloc, count, list)?;
         add_block(&mut blocks, block)?;
     }
     Ok(Some(blocks))
@@ -134,8 +124,7 @@ fn plain_blocks(
 
 /// A program of blocks without instructions, each of which may go to exactly the targets that are listed for it.
 ///
-/// None comes where there is no block or more than 8,192, and where some target is no block or is block 0, or a block has more than 160 targets, or more than 8 where
-/// there are more than 400 blocks.
+/// None comes where there is no block or more than 8,192, where some target is no block or is block 0, and where there are more than 65,536 targets in all.
 pub fn plain_program(alloc: Global, targets: &[Vec<u32>]) -> Result<Option<Program>, OutOfMemory>
     ensures sound { IfOk result (λ program. IfSome program (λ p. Sound p)) }
     ensures len { IfOk result (λ program. IfSome program (λ p. length p.blocks ≡ length targets.now)) }
@@ -144,7 +133,7 @@ pub fn plain_program(alloc: Global, targets: &[Vec<u32>]) -> Result<Option<Progr
         return Ok(None);
     }
     let count = targets.len() as u32;
-    let blocks = match plain_blocks(alloc, count, most_targets(count), targets)? {
+    let blocks = match plain_blocks(alloc, count, targets)? {
         None => return Ok(None),
         Some(blocks) => blocks,
     };
