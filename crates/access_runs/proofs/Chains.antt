@@ -19,7 +19,7 @@ use Rattle.line_runs.specs.Held.{Setting, Held, Has, Uses}
 use Rattle.line_runs.specs.Declared.{Declares}
 use Rattle.line_runs.specs.Ready.{Ready}
 use Rattle.line_runs.proofs.Pieces.{leads_one, has_front, has_back}
-use Rattle.line_runs.proofs.Results.{gave, fixed_here}
+use Rattle.line_runs.proofs.Results.{gave, fixed_here, result_at}
 use Rattle.line_runs.proofs.Reading.{read_length}
 use Rattle.access_runs.proofs.Stepping.{has_at, inst_at, next_of, next_two, Ahead, more, then_ahead}
 use Rattle.access_runs.proofs.Ranges.{read_number, shift_next}
@@ -148,7 +148,7 @@ chain_of s d i env place regs t target addr part word variable indices pointer w
     let behind = has_at s.made (place + length (word_code c env place addr part)) q (last ∷ []) (ap (λ j. place + j) (word_length c env place addr part)) (has_back s.made place (word_code c env place addr part) (last ∷ []) has) in
     let v : Value = Pointer variable indices in
     let does = ap (λ o. gives (result c q) (spv.chain o (words_at s.made w.t' (chain_indices c addr id part))) w.t') (fixed_here s w.t' (target_id c target) (Pointer variable []) pointer) ∙ ap (λ o. gives (result c q) (spv.chain (Some (Pointer variable [])) o) w.t') are in
-    let x = next_of s d i env q regs w.t' v w.ahead.held (leads_one s i w.t' (gave s q v w.t') q 65 (pointer_id c addr ∷ result c q ∷ target_id c target ∷ chain_indices c addr id part) Chains w.ahead.held.at behind.0 refl does) in
+    let x = next_of s d i env q regs w.t' v w.ahead.held (result_at s q 65 _ Chains behind.0 refl refl) (leads_one s i w.t' (gave s q v w.t') q 65 (pointer_id c addr ∷ result c q ∷ target_id c target ∷ chain_indices c addr id part) Chains w.ahead.held.at behind.0 refl does) in
     record {
       t' = gave s q v w.t';
       ahead = more s i env place n (n + 1) q regs t w.t' v w.ahead refl refl x;

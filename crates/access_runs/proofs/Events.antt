@@ -27,12 +27,12 @@ use Rattle.spirv_code.specs.Plans.{Context, inst, result, number, int_id, bool_i
 use Rattle.spirv_code.specs.Reads.{Env, with_id, read_size, read_code, read_id, two_size, two_code, second_id, keep_size, keep_code, store_code, store_size}
 use Rattle.spirv_code.specs.Accesses.{int_inst, bool_inst, atomic_opcode, scope_of, same_code, event_code}
 use Rattle.line_runs.specs.Held.{Setting, Held, Has, Uses, machine}
-use Rattle.line_runs.specs.Declared.{Declares}
+use Rattle.line_runs.specs.Declared.{Declares, HasResult}
 use Rattle.line_runs.specs.Ready.{Ready, IsSet}
 use Rattle.line_runs.specs.Done.{Done}
 use Rattle.line_runs.proofs.Tests.{if_true, if_false}
 use Rattle.line_runs.proofs.Pieces.{has_front, has_back}
-use Rattle.line_runs.proofs.Results.{gave, Keeps, fixed_here, gave_here, gave_keeps, gave_held}
+use Rattle.line_runs.proofs.Results.{gave, Keeps, fixed_here, result_at, gave_here, gave_keeps, gave_held}
 use Rattle.line_runs.proofs.Keeping.{keep}
 use Rattle.line_runs.proofs.Reading.{read_length, read_two, two_length}
 use Rattle.line_runs.proofs.Lines.{joined}
@@ -78,7 +78,7 @@ load_asks s d integers i env q pointer regs t to place one p h has =
     let after : ℕ → State = λ v. gave s q (Word v) t in
     let does : act s.made s.bindings s.launch i Loads (type ∷ result c q ∷ pointer ∷ []) t ≡ Acts (launch.Load place) after = ap (λ o. spv.load_step s.made s.bindings s.launch i type (result c q) o t) p.is ∙ if_false (is_class s.made p.variable 7) p.no_local _ _ ∙ if_false (is_class s.made p.variable 1) p.no_input _ _ ∙ if_true (is_integer s.made type) (d.integers integers) _ _ ∙ ap (λ o. given o (λ place. Acts (launch.Load place) after)) p.goes in
     let keeps : List Inst = keep_code c to ty.Int (result c q) in
-    let rest = λ (v : ℕ). (keep s d i env (q + 1) regs (gave s q (Word v) t) to ty.Int (source.Number v) (result c q) (gave_held s env q regs t (Word v) h) one tt (gave_here s d q (Word v) t) has.1).done in
+    let rest = λ (v : ℕ). (keep s d i env (q + 1) regs (gave s q (Word v) t) to ty.Int (source.Number v) (result c q) (gave_held s env q regs t (Word v) h) one tt (gave_here s d q (result_at s q 61 _ Loads has.0 refl refl) (Word v) t) has.1).done in
     let room : length keeps + 0 + 1 ≤ suc (length keeps) = omega arith in
     let end : q + 1 + length keeps ≡ q + suc (length keeps) = omega arith in
     record {
@@ -163,7 +163,7 @@ atomic_asks s d i env place pointer regs t target word to op value x zero scope 
     let step : Option Value → Option Value → Option Value → Option Value → Step State = λ a b e v. atomic_step s.made s.bindings s.launch op (result c q) a b e v r.t' in
     let does : act s.made s.bindings s.launch i (Atomics op) operands r.t' ≡ Acts (launch.Atomic at op x) after = ap (λ o. step o (value_of s.made r.t' (number c (scope_of target))) (value_of s.made r.t' (number c 0)) (value_of s.made r.t' id)) p'.is ∙ ap (λ o. step (Some (Pointer p'.variable p'.indices)) o (value_of s.made r.t' (number c 0)) (value_of s.made r.t' id)) scope_at ∙ ap (λ o. step (Some (Pointer p'.variable p'.indices)) (Some (Word (scope_of target))) o (value_of s.made r.t' id)) zero_at ∙ ap (λ o. step (Some (Pointer p'.variable p'.indices)) (Some (Word (scope_of target))) (Some (Word 0)) o) r.is ∙ ap (λ o. given o (λ place. if fits_scope place (Some (scope_of target)) && is_some_at (Some 0) 0 then Acts (launch.Atomic place op x) after else Wrong)) p'.goes ∙ if_true (fits_scope at (Some (scope_of target)) && is_some_at (Some 0) 0) (ap (λ b. b && true) (scope_fits target word)) _ _ in
     let size : length (front ++ back) ≡ n + suc (length keeps) = length-append front back ∙ ap (λ k. k + suc (length keeps)) (read_length c env place value) in
-    let rest = λ (v : ℕ). (keep s d i env (q + 1) regs (gave s q (Word v) r.t') to ty.Int (source.Number v) (result c q) (gave_held s env q regs r.t' (Word v) r.ahead.held) one tt (gave_here s d q (Word v) r.t') behind.1).done in
+    let rest = λ (v : ℕ). (keep s d i env (q + 1) regs (gave s q (Word v) r.t') to ty.Int (source.Number v) (result c q) (gave_held s env q regs r.t' (Word v) r.ahead.held) one tt (gave_here s d q (result_at s q (atomic_opcode op) _ (Atomics op) behind.0 (atomic_kind op) refl) (Word v) r.t') behind.1).done in
     let end : q + 1 + length keeps ≡ place + length (front ++ back) = omega (arith, size) in
     let room : length keeps + n + 1 ≤ length (front ++ back) = omega (arith, size) in
     record {
@@ -190,8 +190,8 @@ same_results s t t' same id x e =
     ap (λ o. spv.or_result (spv.fixed s.made id) o) (same id) ∙ e
 
 -- behind the swap itself: the word that was there is kept, and whether it is the one that was compared with
-swap_rest : (s : Setting) → Declares s → (i : ℕ) (env : Env) (q compare : ℕ) (regs : Registers) (t : State) (old same : Reg) (x answer : ℕ) → IsSet s old ty.Int → IsSet s same ty.Bool → value_of s.made t compare ≡ Some (Word x) → Held s env q regs t → Has s.made (q + 1) (keep_code s.context old ty.Int (result s.context q) ++ same_code s.context (q + (1 + keep_size s.context old ty.Int)) (result s.context q) compare same) → Done s i (keep_code s.context old ty.Int (result s.context q) ++ same_code s.context (q + (1 + keep_size s.context old ty.Int)) (result s.context q) compare same) (with_id same (result s.context (q + (1 + keep_size s.context old ty.Int))) (with_id old (result s.context q) env)) (q + 1) (set_to same (source.Truth (nat_eq answer x)) (set_to old (source.Number answer) regs)) (gave s q (Word answer) t)
-swap_rest s d i env q compare regs t old same x answer one_old one_same is h has =
+swap_rest : (s : Setting) → Declares s → (i : ℕ) (env : Env) (q compare : ℕ) (regs : Registers) (t : State) (old same : Reg) (x answer : ℕ) → IsSet s old ty.Int → IsSet s same ty.Bool → value_of s.made t compare ≡ Some (Word x) → Held s env q regs t → HasResult s q → Has s.made (q + 1) (keep_code s.context old ty.Int (result s.context q) ++ same_code s.context (q + (1 + keep_size s.context old ty.Int)) (result s.context q) compare same) → Done s i (keep_code s.context old ty.Int (result s.context q) ++ same_code s.context (q + (1 + keep_size s.context old ty.Int)) (result s.context q) compare same) (with_id same (result s.context (q + (1 + keep_size s.context old ty.Int))) (with_id old (result s.context q) env)) (q + 1) (set_to same (source.Truth (nat_eq answer x)) (set_to old (source.Number answer) regs)) (gave s q (Word answer) t)
+swap_rest s d i env q compare regs t old same x answer one_old one_same is h gives has =
     let c : Context = s.context in
     let t0 : State = gave s q (Word answer) t in
     let n : ℕ = keep_size c old ty.Int in
@@ -201,12 +201,12 @@ swap_rest s d i env q compare regs t old same x answer one_old one_same is h has
     let back : List Inst = bool_inst c q2 170 (result c q ∷ compare ∷ []) ∷ keeps in
     let regs1 : Registers = set_to old (source.Number answer) regs in
     let env1 : Env = with_id old (result c q) env in
-    let first = keep s d i env (q + 1) regs t0 old ty.Int (source.Number answer) (result c q) (gave_held s env q regs t (Word answer) h) one_old tt (gave_here s d q (Word answer) t) (has_front s.made (q + 1) front back has) in
+    let first = keep s d i env (q + 1) regs t0 old ty.Int (source.Number answer) (result c q) (gave_held s env q regs t (Word answer) h) one_old tt (gave_here s d q gives (Word answer) t) (has_front s.made (q + 1) front back has) in
     let t1 : State = first.done.t' in
     let e1 : q + 1 + length front ≡ q2 = omega (arith, keep_length c old ty.Int (result c q)) in
     let code1 = has_at s.made (q + 1 + length front) q2 back e1 (has_back s.made (q + 1) front back has) in
     let still = same_results s t0 t1 first.same in
-    let old_at = still (result c q) (Word answer) (gave_here s d q (Word answer) t) in
+    let old_at = still (result c q) (Word answer) (gave_here s d q gives (Word answer) t) in
     let compare_at = still compare (Word x) (gave_keeps s q (Word answer) t (h.fresh q (omega arith)) compare (Word x) is) in
     let b = nat_eq answer x in
     let equal = next_two s d i env1 q2 regs1 t1 170 (bool_id c) (result c q) compare (Word answer) (Word x) (Truth b) _ (held_at s env1 (q + 1 + length front) q2 regs1 t1 e1 first.done.held) code1.0 refl old_at compare_at refl in
@@ -241,7 +241,7 @@ swap_asks s d i env place pointer regs t target word old same compare value x v 
     let here : Option Value = Some (Pointer p'.variable p'.indices) in
     let does : act s.made s.bindings s.launch i Swaps operands r.t' ≡ Acts (launch.Swap at x v) after = ap (λ o. step o (value_of s.made r.t' (number c (scope_of target))) (value_of s.made r.t' (number c 0)) (value_of s.made r.t' vid) (value_of s.made r.t' cid)) p'.is ∙ ap (λ o. step here o (value_of s.made r.t' (number c 0)) (value_of s.made r.t' vid) (value_of s.made r.t' cid)) scope_at ∙ ap (λ o. step here (Some (Word (scope_of target))) o (value_of s.made r.t' vid) (value_of s.made r.t' cid)) zero_at ∙ ap (λ o. step here (Some (Word (scope_of target))) (Some (Word 0)) o (value_of s.made r.t' cid)) value_at ∙ ap (λ o. step here (Some (Word (scope_of target))) (Some (Word 0)) (Some (Word v)) o) compare_at ∙ ap (λ o. given o (λ place. if fits_scope place (Some (scope_of target)) && is_some_at (Some 0) 0 && is_some_at (Some 0) 0 then Acts (launch.Swap place x v) after else Wrong)) p'.goes ∙ if_true (fits_scope at (Some (scope_of target)) && is_some_at (Some 0) 0 && is_some_at (Some 0) 0) (ap (λ b. b && true && true) (scope_fits target word)) _ _ in
     let size : length (front ++ back) ≡ n + suc (length rest_code) = length-append front back ∙ ap (λ k. k + suc (length rest_code)) (two_length c env place value compare) in
-    let rest = λ (answer : ℕ). swap_rest s d i env q cid regs r.t' old same x answer one_old one_same compare_at r.held behind.1 in
+    let rest = λ (answer : ℕ). swap_rest s d i env q cid regs r.t' old same x answer one_old one_same compare_at r.held (result_at s q 230 _ Swaps behind.0 refl refl) behind.1 in
     let env' : Env = with_id same (result c (q + (1 + keep_size c old ty.Int))) (with_id old (result c q) env) in
     let end : q + 1 + length rest_code ≡ place + length (front ++ back) = omega (arith, size) in
     let room : length rest_code + n + 1 ≤ length (front ++ back) = omega (arith, size) in

@@ -22,7 +22,7 @@ use Rattle.line_runs.specs.Declared.{Declares, has_rows}
 use Rattle.line_runs.specs.Ready.{Ready}
 use Rattle.line_runs.proofs.Tests.{nat_eq-eq}
 use Rattle.line_runs.proofs.Pieces.{leads_one, has_front, has_back}
-use Rattle.line_runs.proofs.Results.{gave, fixed_here}
+use Rattle.line_runs.proofs.Results.{gave, fixed_here, result_at}
 use Rattle.line_runs.proofs.Reading.{read, read_length}
 use Rattle.line_runs.proofs.Combined.{length_is}
 use Rattle.line_runs.proofs.Whole.{number_some}
@@ -61,7 +61,7 @@ length_next s d i env q regs t r resource uses at words h here =
     let buffer = d.buffers r resource uses at in
     let w : Value = Word (slice_index s.launch.sizes r) in
     let does = ap (λ o. gives (result s.context q) (length_of s.made s.bindings s.launch o) t) (fixed_here s t id (Pointer id []) buffer.variable.pointer) ∙ ap (λ o. gives (result s.context q) o t) (length_is s r resource id words buffer) in
-    next_of s d i env q regs t w h (leads_one s i t (gave s q w t) q 68 (int_id s.context ∷ result s.context q ∷ id ∷ 0 ∷ []) Lengths h.at here refl does)
+    next_of s d i env q regs t w h (result_at s q 68 _ Lengths here refl refl) (leads_one s i t (gave s q w t) q 68 (int_id s.context ∷ result s.context q ∷ id ∷ 0 ∷ []) Lengths h.at here refl does)
 
 pub less_next : (s : Setting) → Declares s → (i : ℕ) (env : Env) (q : ℕ) (regs : Registers) (t : State) (a b x y : ℕ) → Held s env q regs t → slice_get s.made.insts q ≡ Some (bool_inst s.context q 176 (a ∷ b ∷ [])) → value_of s.made t a ≡ Some (Word x) → value_of s.made t b ≡ Some (Word y) → Next s i env q regs t (Truth (nat_lt x y))
 less_next s d i env q regs t a b x y h here isa isb =

@@ -1,5 +1,5 @@
 -- Results one after the other.
-use Rattle.std.proofs.Common.{◌≡◌, ℕ, ◌+◌, List, [], ◌∷◌, Option, Some, sym, ap, ◌∙◌, subst, arith}
+use Rattle.std.proofs.Common.{◌≡◌, ℕ, ◌+◌, List, [], ◌∷◌, Option, Some, refl, sym, ap, ◌∙◌, subst, arith}
 use Rattle.std.specs.Prelude.{slice_get}
 use Rattle.spv_form.specs.declared.module.Inst.{Inst}
 use Rattle.spv_form.specs.declared.module.Module.{Module}
@@ -10,8 +10,8 @@ use Rattle.spirv_meaning.specs.Target.{Value, State, Two_operands, kind_of, valu
 use Rattle.spirv_code.specs.Plans.{inst, result}
 use Rattle.spirv_code.specs.Reads.{Env}
 use Rattle.line_runs.specs.Held.{Setting, Held, Has, machine}
-use Rattle.line_runs.specs.Declared.{Declares}
-use Rattle.line_runs.proofs.Results.{gave, Keeps, gave_here, gave_keeps, gave_held}
+use Rattle.line_runs.specs.Declared.{Declares, HasResult}
+use Rattle.line_runs.proofs.Results.{gave, Keeps, result_at, gave_here, gave_keeps, gave_held}
 use Rattle.line_runs.proofs.Combined.{two_words}
 
 pub held_at : (s : Setting) (env : Env) (p q : ℕ) (regs : Registers) (t : State) → p ≡ q → Held s env p regs t → Held s env q regs t
@@ -30,18 +30,18 @@ pub record Next (s : Setting) (i : ℕ) (env : Env) (q : ℕ) (regs : Registers)
   pub keeps : Keeps s t (gave s q w t)
   pub is : value_of s.made (gave s q w t) (result s.context q) ≡ Some w
 
-pub next_of : (s : Setting) → Declares s → (i : ℕ) (env : Env) (q : ℕ) (regs : Registers) (t : State) (w : Value) → Held s env q regs t → Leads (machine s) i 1 t [] (gave s q w t) → Next s i env q regs t w
-next_of s d i env q regs t w h leads =
+pub next_of : (s : Setting) → Declares s → (i : ℕ) (env : Env) (q : ℕ) (regs : Registers) (t : State) (w : Value) → Held s env q regs t → HasResult s q → Leads (machine s) i 1 t [] (gave s q w t) → Next s i env q regs t w
+next_of s d i env q regs t w h has leads =
     record {
       leads = leads;
       held = gave_held s env q regs t w h;
       keeps = gave_keeps s q w t (h.fresh q (omega arith));
-      is = gave_here s d q w t;
+      is = gave_here s d q has w t;
     }
 
 pub next_two : (s : Setting) → Declares s → (i : ℕ) (env : Env) (q : ℕ) (regs : Registers) (t : State) (opcode type a b : ℕ) (wa wb w : Value) (f : Option Value → Option Value → Option Value) → Held s env q regs t → slice_get s.made.insts q ≡ Some (inst opcode (type ∷ result s.context q ∷ a ∷ b ∷ [])) → kind_of opcode ≡ Some (Two_operands f) → value_of s.made t a ≡ Some wa → value_of s.made t b ≡ Some wb → f (Some wa) (Some wb) ≡ Some w → Next s i env q regs t w
 next_two s d i env q regs t opcode type a b wa wb w f h here is isa isb gives_it =
-    next_of s d i env q regs t w h (two_words s i q opcode type a b t wa wb w f h.at here is isa isb gives_it)
+    next_of s d i env q regs t w h (result_at s q opcode _ (Two_operands f) here is refl) (two_words s i q opcode type a b t wa wb w f h.at here is isa isb gives_it)
 
 -- some results, up to place + n
 pub record Ahead (s : Setting) (i : ℕ) (env : Env) (place n : ℕ) (regs : Registers) (t t' : State) : Type 0 where

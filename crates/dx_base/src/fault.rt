@@ -11,8 +11,6 @@ pub enum Rule {
     M(u8),
     N(u8),
     P(u8),
-    /// A form that the translator does not take yet.
-    NotYet,
 }
 
 /// What a limit counts.

@@ -4,7 +4,7 @@ use Rattle.std.proofs.lemmas.Bool.{cases_lt}
 use Rattle.dx_base.specs.First.{IsFirst}
 use Rattle.dx_base.specs.declared.fault.Fault.{Fault}
 use Rattle.dx_base.specs.declared.fault.Fault.TheVariants.{Refused, Limit, OutOfMemory}
-use Rattle.dx_base.specs.declared.fault.Rule.TheVariants.{B, C, Y, M, N, P, NotYet}
+use Rattle.dx_base.specs.declared.fault.Rule.TheVariants.{B, C, Y, M, N, P}
 use Rattle.dx_base.specs.declared.fault.Which.TheVariants as which
 use Rattle.bitstream_spelling.specs.Layout.{Shape}
 use Rattle.bitstream_spelling.specs.Spelling.{Place, Lays, item}
@@ -57,7 +57,6 @@ fault_first r p (Refused (Y n) bit) o h = absurd h
 fault_first r p (Refused (M n) bit) o h = absurd h
 fault_first r p (Refused (N n) bit) o h = absurd h
 fault_first r p (Refused (P n) bit) o h = absurd h
-fault_first r p (Refused NotYet bit) o h = absurd h
 fault_first r p (Limit which.Records bit) o h = let f = first_of r.cursor.bytes r.cursor.start r.cursor.end p r.list r.fields 9 bit o h in (f, none_of _ _ _ _ _ f)
 fault_first r p (Limit which.Fields bit) o h = let f = first_of r.cursor.bytes r.cursor.start r.cursor.end p r.list r.fields 10 bit o h in (f, none_of _ _ _ _ _ f)
 fault_first r p (Limit which.File bit) o h = absurd h

@@ -6,7 +6,7 @@ use Rattle.dx_base.specs.Bits.{num}
 use Rattle.dx_base.specs.Cursor.{Cursor, moved}
 use Rattle.dx_base.specs.declared.fault.Fault.{Fault}
 use Rattle.dx_base.specs.declared.fault.Fault.TheVariants.{Refused, Limit, OutOfMemory}
-use Rattle.dx_base.specs.declared.fault.Rule.TheVariants.{B, C, Y, M, N, P, NotYet}
+use Rattle.dx_base.specs.declared.fault.Rule.TheVariants.{B, C, Y, M, N, P}
 use Rattle.dx_base.specs.declared.fault.Which.TheVariants as which
 use Rattle.bitstream_spelling.specs.Spelling.{Block, Place}
 use Rattle.bitstream_spelling.specs.Rules.{IsInside, records, is_record}
@@ -107,7 +107,6 @@ module _ (old : Reader) (c : Cursor) (bit : ℕ) where
   halt_mid (Refused (M n) b) p h = h
   halt_mid (Refused (N n) b) p h = h
   halt_mid (Refused (P n) b) p h = h
-  halt_mid (Refused NotYet b) p h = h
   halt_mid (Limit which.Records b) p h = h
   halt_mid (Limit which.Fields b) p h = h
   halt_mid (Limit which.File b) p h = h

@@ -4,7 +4,7 @@ use Rattle.dx_base.proofs.FirstLaws.{first_unique}
 use Rattle.dx_base.specs.First.{IsFirst}
 use Rattle.dx_base.specs.declared.fault.Fault.{Fault}
 use Rattle.dx_base.specs.declared.fault.Fault.TheVariants.{Refused, Limit, OutOfMemory}
-use Rattle.dx_base.specs.declared.fault.Rule.TheVariants.{C, B, Y, M, N, P, NotYet}
+use Rattle.dx_base.specs.declared.fault.Rule.TheVariants.{C, B, Y, M, N, P}
 use Rattle.dx_base.specs.declared.fault.Which.TheVariants.{File, Records, Fields, Blocks, Instructions, Cases, PhiEntries, Resources}
 use Rattle.dxbc_container.specs.Layout.{Carries}
 use Rattle.dxbc_container.specs.Reading.{ContainerAnswer}
@@ -79,7 +79,6 @@ module _ (bytes : List ℕ) where
   container_fault (Refused (M n) bit) a = absurd a
   container_fault (Refused (N n) bit) a = absurd a
   container_fault (Refused (P n) bit) a = absurd a
-  container_fault (Refused NotYet bit) a = absurd a
   container_fault (Limit which bit) a = absurd a
   container_fault OutOfMemory a = tt
 
@@ -92,7 +91,6 @@ module _ (bytes : List ℕ) where
     bitcode_fault (Refused (M n) bit) a = absurd a
     bitcode_fault (Refused (N n) bit) a = absurd a
     bitcode_fault (Refused (P n) bit) a = absurd a
-    bitcode_fault (Refused NotYet bit) a = absurd a
     bitcode_fault (Limit File bit) a = absurd a
     bitcode_fault (Limit Records bit) a = let first = of_records p bit (record { container = w; first = a.0 }) in record { first = first; nothing = no_content (limited Records bit) first }
     bitcode_fault (Limit Fields bit) a = let first = of_fields p bit (record { container = w; first = a.0 }) in record { first = first; nothing = no_content (limited Fields bit) first }

@@ -8,7 +8,7 @@ use Rattle.dx_base.proofs.BitLaws.{num-lt}
 use Rattle.dx_base.specs.First.{IsFirst, IsSound}
 use Rattle.dx_base.specs.declared.fault.Fault.{Fault}
 use Rattle.dx_base.specs.declared.fault.Fault.TheVariants.{Refused, Limit, OutOfMemory}
-use Rattle.dx_base.specs.declared.fault.Rule.TheVariants.{C, B, Y, M, N, P, NotYet}
+use Rattle.dx_base.specs.declared.fault.Rule.TheVariants.{C, B, Y, M, N, P}
 use Rattle.dxbc_container.specs.declared.part.Part.{Part}
 use Rattle.dxbc_container.specs.declared.part.Parts.{Parts}
 use Rattle.dxbc_container.specs.declared.read.Table.{Table}
@@ -294,7 +294,6 @@ module _ (bytes : List ℕ) where
   container_failed (Refused (M n) bit) h = absurd h
   container_failed (Refused (N n) bit) h = absurd h
   container_failed (Refused (P n) bit) h = absurd h
-  container_failed (Refused NotYet bit) h = absurd h
   container_failed (Limit which bit) h = absurd h
   container_failed OutOfMemory h = tt
 

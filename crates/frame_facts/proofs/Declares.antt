@@ -37,9 +37,10 @@ use Rattle.frame_facts.proofs.Searches.{Each, each_weaker, if_not, if_so, eq_sam
 use Rattle.frame_facts.proofs.Tables.{key_stands, slot_stands}
 use Rattle.frame_facts.proofs.Declarations.{IsRemark, decorations_remarks, decorated, set_found, binding_found, resource_first, array_number}
 use Rattle.frame_facts.proofs.InnerRows.{IsLabelOf}
-use Rattle.frame_facts.proofs.Spread.{is_spread, decs, from_types, from_function, names_each, declared_global, declared_slot, fixed_result, label_below}
+use Rattle.frame_facts.proofs.Spread.{is_spread, decs, from_types, from_function, names_each, declared_global, declared_slot, label_below}
 use Rattle.frame_facts.proofs.Labels.{label_first, labelled, Labelled, unlabelled, at_own, in_region, naming, IsName}
 use Rattle.frame_facts.proofs.Sites.{HasSite, begins_none}
+use Rattle.frame_facts.proofs.Results.{fixed_result}
 
 -- a search for groupshared arrays passes over what is no variable
 shared_skip : (variable n : ℕ) (a b : List Inst) → Each (IsNot 59) a → shared_number (a ++ b) variable n ≡ shared_number b variable n
@@ -281,7 +282,7 @@ module _ (p : Program) (list : List Region) (at : Bindings) (v : Version) (plan 
         buffers = λ r resource uses is. buffer_is r resource uses is;
         arrays = λ a uses. array_is a uses;
         local = refl;
-        results = λ place. fixed_result p list at v plan owned place;
+        results = λ place has. fixed_result p list at v plan owned place has.i has.kind has.here has.known has.gives;
         inner = λ place e. (inner_found place e, inner_begins place e);
         locals = λ slot id e. local_is slot id e;
         apart = λ a b id ea eb.

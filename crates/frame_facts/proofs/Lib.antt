@@ -6,6 +6,7 @@ pub mod InnerLines
 pub mod InnerRows
 pub mod Labels
 pub mod Regions
+pub mod Results
 pub mod Searches
 pub mod Sites
 pub mod Spread

@@ -12,7 +12,7 @@ use Rattle.spirv_meaning.specs.Target.{result_of, declared, fixed_value}
 use Rattle.spirv_code.specs.declared.key.Global.{Global}
 use Rattle.spirv_code.specs.declared.key.Slot.{Slot}
 use Rattle.spirv_code.specs.Keys.{index_of, has_key}
-use Rattle.spirv_code.specs.Plans.{Plan, Context, inst, label, first_label, result, slots_from, table_from, results_from, global_id, context_of}
+use Rattle.spirv_code.specs.Plans.{Plan, Context, inst, label, first_label, result, slots_from, table_from, global_id, context_of}
 use Rattle.spirv_code.specs.Leaves.{followed}
 use Rattle.spirv_code.specs.Exits.{label_inst}
 use Rattle.spirv_code.specs.Trees.{Tree, label_at, begins_plainly, place_of, root_of}
@@ -138,8 +138,12 @@ module _ (p : Program) (list : List Region) (at : Bindings) (v : Version) (plan 
   declared_global g h =
       to_types (ids g) (omega arith) ∙ declared_at p ids (table_from plan) plan.table (index_of plan.table g) g from_function (key_stands plan.table g h)
 
+  -- what comes behind the ids of the table
+  abbrev pub top : ℕ
+  top = table_from plan + length plan.table
+
   -- down to the function: the ids between those of the labels and those of the table are of its variables
-  to_function : (id : ℕ) → 3 < id → (id < table_from plan) ⊎ (results_from plan ≤ id) → declared (insts_of p list at v plan) id ≡ declared from_function id
+  to_function : (id : ℕ) → 3 < id → (id < table_from plan) ⊎ (top ≤ id) → declared (insts_of p list at v plan) id ≡ declared from_function id
   to_function id big out = to_types id big ∙ declared_skip id decls from_function (apart out)
     where
       below : (n : ℕ) (table : List Global) → id < n → Each (DeclaresNot id) (declarations p ids n table)
@@ -149,7 +153,7 @@ module _ (p : Program) (list : List Region) (at : Bindings) (v : Version) (plan 
           differs : (n : ℕ) (g : Global) → id < n → DeclaresNot id (declaration p ids n g)
           differs n g h = ap (λ o. is_some_at o id) (own_result p ids n g) ∙ ne_eqb n id (λ e. omega arith)
 
-      apart : (id < table_from plan) ⊎ (results_from plan ≤ id) → Each (DeclaresNot id) decls
+      apart : (id < table_from plan) ⊎ (top ≤ id) → Each (DeclaresNot id) decls
       apart out = ⊎_elim (λ less. below (table_from plan) plan.table less) (λ more. declarations_apart p ids (table_from plan) plan.table id more) out
 
   -- the label of the function's first block is one of a region
@@ -192,8 +196,8 @@ module _ (p : Program) (list : List Region) (at : Bindings) (v : Version) (plan 
     declared_slot k s few h =
         to_function (slots_from plan + k) (omega arith) (inl (omega (arith, few))) ∙ to_slots (slots_from plan + k) (omega arith) ∙ slot_at ids (slots_from plan) plan.slots k s ending h
 
-    pub fixed_result : (place : ℕ) → fixed_value (declared (insts_of p list at v plan) (results_from plan + place)) (results_from plan + place) ≡ None
-    fixed_result place =
-        let id : ℕ = results_from plan + place in
-        let found = to_function id (omega arith) (inr (omega arith)) ∙ to_slots id (omega arith) ∙ declared_skip id variables ending (slots_apart ids (slots_from plan) plan.slots id (omega arith)) in
+    -- nothing beyond the ids of the table has a value
+    pub fixed_beyond : (id : ℕ) → top ≤ id → fixed_value (declared (insts_of p list at v plan) id) id ≡ None
+    fixed_beyond id far =
+        let found = to_function id (omega (arith, far)) (inr far) ∙ to_slots id (omega (arith, far)) ∙ declared_skip id variables ending (slots_apart ids (slots_from plan) plan.slots id (omega (arith, far))) in
         ap (λ o. fixed_value o id) found ∙ body_declares (context_of p plan) (λ r. r < plan.regions) (length (frame p list at v plan)) body closing id (body_inner (λ r. r < plan.regions) mine) refl

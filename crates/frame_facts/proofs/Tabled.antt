@@ -46,7 +46,7 @@ built_in_self builtin.LocalInvocationId = refl
 built_in_self builtin.GlobalInvocationId = refl
 built_in_self builtin.LocalInvocationIndex = refl
 
-global_self : (g : Global) → same_global g g ≡ true
+pub global_self : (g : Global) → same_global g g ≡ true
 global_self (Plain s) = sort_self s
 global_self (Pointer s to) = ap (λ b. b && same_sort to to) (storage_self s) ∙ sort_self to
 global_self (Number n) = eq_same n

@@ -16,7 +16,7 @@ use Rattle.line_runs.specs.Held.{Setting, Held, Has, machine}
 use Rattle.line_runs.specs.Declared.{Declares}
 use Rattle.line_runs.proofs.Tests.{none_some, with_at}
 use Rattle.line_runs.proofs.Pieces.{leads_one, has_front, has_back}
-use Rattle.line_runs.proofs.Results.{gave, gave_here, gave_held}
+use Rattle.line_runs.proofs.Results.{gave, result_at, gave_here, gave_held}
 use Rattle.line_runs.proofs.Keeping.{Worth, keep_worth}
 use Rattle.line_runs.proofs.Reading.{load_gives}
 use Rattle.access_runs.proofs.Stepping.{held_at}
@@ -96,7 +96,7 @@ phi_runs s d i old previous env place regs t phi ready fills h has =
     let keeps : List Inst = keep_code c phi.to phi.ty r in
     let same : keeps ≡ inst 62 (variable c (kept phi.to phi.ty) ∷ r ∷ []) ∷ [] = store_is (c.slot (kept phi.to phi.ty)) ready.own.0 r ready.own.1 in
     let worth : Worth phi.ty (entry_value old previous phi.entries) f.0 = record { of = f.2; same = f.3 } in
-    let k = keep_worth s d i env (place + 1) regs t1 phi.to phi.ty (entry_value old previous phi.entries) f.0 r (gave_held s env place regs t f.0 h) ready.one worth (gave_here s d place f.0 t) (subst (λ code. Has s.made (place + 1) code) (sym same) has.1) in
+    let k = keep_worth s d i env (place + 1) regs t1 phi.to phi.ty (entry_value old previous phi.entries) f.0 r (gave_held s env place regs t f.0 h) ready.one worth (gave_here s d place (result_at s place 61 _ Loads here refl refl) f.0 t) (subst (λ code. Has s.made (place + 1) code) (sym same) has.1) in
     let env' : Env = with_id phi.to r env in
     let regs' : Registers = with_at phi.to (entry_value old previous phi.entries) regs in
     let stored : After s i keeps env' (place + 1) regs' t1 = record { t' = k.done.t'; leads = k.done.leads; held = k.done.held; nexts = k.nexts } in

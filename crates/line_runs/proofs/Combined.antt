@@ -39,7 +39,7 @@ use Rattle.line_runs.specs.Held.{Setting, Held, Has, Uses, IsOf, machine, as_val
 use Rattle.line_runs.specs.Declared.{Declares, IsBuffer, has_rows, buffer_class}
 use Rattle.line_runs.proofs.Tests.{none_some, some_inj, true_false, if_true, if_false, nat_eq-eq, with_at}
 use Rattle.line_runs.proofs.Pieces.{leads_one, has_front, has_back}
-use Rattle.line_runs.proofs.Results.{gave, fixed_here, gave_here, gave_keeps, gave_held}
+use Rattle.line_runs.proofs.Results.{gave, fixed_here, result_at, gave_here, gave_keeps, gave_held}
 use Rattle.line_runs.specs.Ready.{Ready, IsSet, CastNeeds}
 use Rattle.line_runs.specs.Done.{Done}
 use Rattle.line_runs.proofs.Reading.{read, read_length, read_two, two_length, read_three, three_length}
@@ -74,7 +74,7 @@ low_bit x = ap (λ n. not (nat_eq n 0)) (and_mask x 1) ∙ by_rest (x % 2) (omeg
 chosen : (s : Setting) → Declares s → (i : ℕ) (env : Env) (place : ℕ) (regs : Registers) (t : State) (to : Reg) (n : ℕ) (ids : List ℕ) (v : source.Value) → IsSet s to ty.Int → source.Number n ≡ v → act s.made s.bindings s.launch i Chooses (type_id s.context ty.Int ∷ result s.context place ∷ ids) t ≡ Quiet [] (gave s place (Word n) t) → Held s env place regs t → Has s.made place (value_code s.context place to ty.Int 169 ids) → Done s i (value_code s.context place to ty.Int 169 ids) (with_id to (result s.context (place + 0)) env) place (with_at to (Some v) regs) t
 chosen s d i env place regs t to n ids v one same does h has =
     let e : place ≡ place + 0 = omega arith in
-    let line = value_line s d i env place regs t to ty.Int 169 ids Chooses (source.Number n) h one tt refl does has in
+    let line = value_line s d i env place regs t to ty.Int 169 ids Chooses (source.Number n) h one tt refl refl does has in
     subst (λ w. Done s i (value_code s.context place to ty.Int 169 ids) (with_id to (result s.context (place + 0)) env) place (with_at to (Some w) regs) t) same (subst (λ k. Done s i (value_code s.context place to ty.Int 169 ids) (with_id to (result s.context k) env) place (with_at to (Some (source.Number n)) regs) t) e line)
 
 cast_after : (s : Setting) → Declares s → (i : ℕ) (env : Env) (place : ℕ) (regs : Registers) (t : State) (to : Reg) (op : CastOp) (id : ℕ) (x v : source.Value) → CastNeeds s op → IsSet s to (cast_to op) → source.cast op x ≡ Some v → value_of s.made t id ≡ Some (as_value x) → Held s env place regs t → Has s.made place (cast_tail s.context place to op id) → Done s i (cast_tail s.context place to op id) (with_id to (result s.context (place + cast_before op)) env) place (with_at to (Some v) regs) t
@@ -85,8 +85,8 @@ cast_after s d i env place regs t to cast.Trunc id (source.Number n) v needs one
     let held = gave_held s env place regs t (Word (bit_and n 1)) h in
     let zero_here = fixed_here s t1 (number s.context 0) (Word 0) (d.numbers 0 needs.1) in
     let test : Truth (not (nat_eq (bit_and n 1) 0)) ≡ as_value v = ap Truth (low_bit n) ∙ ap as_value (some_inj e) in
-    let does = two_gives s (place + 1) (result s.context place) (number s.context 0) t1 (Word (bit_and n 1)) (Word 0) (as_value v) (spv.on_tests (λ x y. not (nat_eq x y))) (gave_here s d place (Word (bit_and n 1)) t) zero_here (ap Some test) in
-    let rest = value_line s d i env (place + 1) regs t1 to ty.Bool 171 (result s.context place ∷ number s.context 0 ∷ []) (Two_operands (spv.on_tests (λ x y. not (nat_eq x y)))) v held one (subst (λ w. IsOf ty.Bool w) test tt) refl does has.1 in
+    let does = two_gives s (place + 1) (result s.context place) (number s.context 0) t1 (Word (bit_and n 1)) (Word 0) (as_value v) (spv.on_tests (λ x y. not (nat_eq x y))) (gave_here s d place (result_at s place 199 _ (Two_operands _) has.0 refl refl) (Word (bit_and n 1)) t) zero_here (ap Some test) in
+    let rest = value_line s d i env (place + 1) regs t1 to ty.Bool 171 (result s.context place ∷ number s.context 0 ∷ []) (Two_operands (spv.on_tests (λ x y. not (nat_eq x y)))) v held one (subst (λ w. IsOf ty.Bool w) test tt) refl refl does has.1 in
     behind_one s d i env (with_id to (result s.context (place + 1)) env) place regs (with_at to (Some v) regs) t 199 (int_id s.context ∷ result s.context place ∷ id ∷ number s.context 1 ∷ []) (Word (bit_and n 1)) (value_code s.context (place + 1) to ty.Bool 171 (result s.context place ∷ number s.context 0 ∷ [])) h first rest
 cast_after s d i env place regs t to cast.Zext id (source.Truth b) v needs one e is h has =
     let does = choice_gives s place id (number s.context 1) (number s.context 0) t b 1 0 is (fixed_here s t (number s.context 1) (Word 1) (d.numbers 1 needs.0)) (fixed_here s t (number s.context 0) (Word 0) (d.numbers 0 needs.1)) in
@@ -145,9 +145,9 @@ extreme_line s d i env place regs t to op a b x y ra rb one is_x is_y h has =
     let step = two_words s i (place + n) (two_opcode op) (bool_id s.context) ida idb both.t' (Word x) (Word y) (Truth f.1) f.0 both.held.at behind.0 f.2 at_a at_b f.3 in
     let held = gave_held s env (place + n) regs both.t' (Truth f.1) both.held in
     let keeps = gave_keeps s (place + n) (Truth f.1) both.t' (both.held.fresh (place + n) (omega arith)) in
-    let chosen_gives = choice_gives s (place + (n + 1)) test idb ida t1 f.1 y x (gave_here s d (place + n) (Truth f.1) both.t') (keeps idb (Word y) at_b) (keeps ida (Word x) at_a) in
+    let chosen_gives = choice_gives s (place + (n + 1)) test idb ida t1 f.1 y x (gave_here s d (place + n) (result_at s (place + n) (two_opcode op) _ (Two_operands f.0) behind.0 f.2 refl) (Truth f.1) both.t') (keeps idb (Word y) at_b) (keeps ida (Word x) at_a) in
     let does = chosen_gives ∙ ap (λ w. Quiet [] (gave s (place + (n + 1)) (Word w) t1)) f.4 in
-    let rest = value_line s d i env (place + (n + 1)) regs t1 to ty.Int 169 ids Chooses (source.Number (two_op op x y)) (subst (λ k. Held s env k regs t1) e1 held) one tt refl does (subst (λ k. Has s.made k back) e1 behind.1) in
+    let rest = value_line s d i env (place + (n + 1)) regs t1 to ty.Int 169 ids Chooses (source.Number (two_op op x y)) (subst (λ k. Held s env k regs t1) e1 held) one tt refl refl does (subst (λ k. Has s.made k back) e1 behind.1) in
     let tail = behind_one s d i env (with_id to (result s.context (place + (n + 1))) env) (place + n) regs (with_at to (Some (source.Number (two_op op x y))) regs) both.t' (two_opcode op) (bool_id s.context ∷ test ∷ ida ∷ idb ∷ []) (Truth f.1) back both.held step (subst (λ k. Done s i back (with_id to (result s.context (place + (n + 1))) env) k (with_at to (Some (source.Number (two_op op x y))) regs) t1) (sym e1) rest) in
     joined s i front (bool_inst s.context (place + n) (two_opcode op) (ida ∷ idb ∷ []) ∷ back) n (with_id to (result s.context (place + (n + 1))) env) place (with_at to (Some (source.Number (two_op op x y))) regs) t both.t' (two_length s.context env place a b) both.leads tail
 
@@ -174,8 +174,8 @@ mad_line s d i env place regs t to x a b k m n rx ra rb one is_k is_m is_n h has
     let step = two_words s i (place + size) 132 (int_id s.context) idx ida all.t' (Word k) (Word m) w _ all.held.at behind.0 refl at_x at_a refl in
     let held = gave_held s env (place + size) regs all.t' w all.held in
     let keeps = gave_keeps s (place + size) w all.t' (all.held.fresh (place + size) (omega arith)) in
-    let does = two_gives s (place + (size + 1)) product_id idb t1 w (Word n) (Word (word_add (word_mul k m) n)) (spv.on_words (λ x y. Some (word_add x y))) (gave_here s d (place + size) w all.t') (keeps idb (Word n) at_b) refl in
-    let rest = value_line s d i env (place + (size + 1)) regs t1 to ty.Int 128 (product_id ∷ idb ∷ []) (Two_operands (spv.on_words (λ x y. Some (word_add x y)))) (source.Number (word_add (word_mul k m) n)) (subst (λ k. Held s env k regs t1) e1 held) one tt refl does (subst (λ k. Has s.made k back) e1 behind.1) in
+    let does = two_gives s (place + (size + 1)) product_id idb t1 w (Word n) (Word (word_add (word_mul k m) n)) (spv.on_words (λ x y. Some (word_add x y))) (gave_here s d (place + size) (result_at s (place + size) 132 _ (Two_operands _) behind.0 refl refl) w all.t') (keeps idb (Word n) at_b) refl in
+    let rest = value_line s d i env (place + (size + 1)) regs t1 to ty.Int 128 (product_id ∷ idb ∷ []) (Two_operands (spv.on_words (λ x y. Some (word_add x y)))) (source.Number (word_add (word_mul k m) n)) (subst (λ k. Held s env k regs t1) e1 held) one tt refl refl does (subst (λ k. Has s.made k back) e1 behind.1) in
     let tail = behind_one s d i env (with_id to (result s.context (place + (size + 1))) env) (place + size) regs (with_at to (Some (source.Number (word_add (word_mul k m) n))) regs) all.t' 132 (int_id s.context ∷ product_id ∷ idx ∷ ida ∷ []) w back all.held step (subst (λ k'. Done s i back (with_id to (result s.context (place + (size + 1))) env) k' (with_at to (Some (source.Number (word_add (word_mul k m) n))) regs) t1) (sym e1) rest) in
     joined s i front whole size (with_id to (result s.context (place + (size + 1))) env) place (with_at to (Some (source.Number (word_add (word_mul k m) n))) regs) t all.t' (three_length s.context env place x a b) all.leads tail
 
@@ -209,8 +209,8 @@ component_line s d i env place regs t to b part f uses le one is h has =
     let t1 : State = gave s place w t in
     let step = leads_one s i t t1 place 61 (type ∷ result s.context place ∷ s.context.key (global.Input b) ∷ []) Loads h.at has.0 refl (input_load s d i type place t b w uses is) in
     let held = gave_held s env place regs t w h in
-    let does = ap (λ o. gives (result s.context (place + 1)) (extracted o part) t1) (gave_here s d place w t) ∙ ap (λ o. gives (result s.context (place + 1)) o t1) (component_of f part le) in
-    let rest = value_line s d i env (place + 1) regs t1 to ty.Int 81 (result s.context place ∷ part ∷ []) Extracts (source.Number (f part)) held one tt refl does has.1 in
+    let does = ap (λ o. gives (result s.context (place + 1)) (extracted o part) t1) (gave_here s d place (result_at s place 61 _ Loads has.0 refl refl) w t) ∙ ap (λ o. gives (result s.context (place + 1)) o t1) (component_of f part le) in
+    let rest = value_line s d i env (place + 1) regs t1 to ty.Int 81 (result s.context place ∷ part ∷ []) Extracts (source.Number (f part)) held one tt refl refl does has.1 in
     behind_one s d i env (with_id to (result s.context (place + 1)) env) place regs (with_at to (Some (source.Number (f part))) regs) t 61 (type ∷ result s.context place ∷ s.context.key (global.Input b) ∷ []) w (value_code s.context (place + 1) to ty.Int 81 (result s.context place ∷ part ∷ [])) h step rest
 
 pub id_line : (s : Setting) → Declares s → (i : ℕ) (env : Env) (place : ℕ) (regs : Registers) (t : State) (to : Reg) (op : IdOp) (part : ℕ) → Uses s (global.Input (built_in_of op)) → PartFits op part → IsSet s to ty.Int → Held s env place regs t → Has s.made place (id_code s.context place to op part) → Done s i (id_code s.context place to op part) (with_id to (result s.context (place + id_before op)) env) place (with_at to (Some (source.Number (id_of s.program s.launch i op part))) regs) t
@@ -224,7 +224,7 @@ id_line s d i env place regs t to thread.Flat part uses fits one h has =
     let e : place ≡ place + 0 = omega arith in
     let n : ℕ = i % product s.program.local in
     let does = input_load s d i (type_id s.context ty.Int) place t builtin.LocalInvocationIndex (Word n) uses refl in
-    let line = value_line s d i env place regs t to ty.Int 61 (s.context.key (global.Input builtin.LocalInvocationIndex) ∷ []) Loads (source.Number n) h one tt refl does has in
+    let line = value_line s d i env place regs t to ty.Int 61 (s.context.key (global.Input builtin.LocalInvocationIndex) ∷ []) Loads (source.Number n) h one tt refl refl does has in
     subst (λ k. Done s i (id_code s.context place to thread.Flat part) (with_id to (result s.context k) env) place (with_at to (Some (source.Number n)) regs) t) e line
 
 -- ---- sizes
@@ -245,4 +245,4 @@ size_line s d i env place regs t to r resource uses at words one h has =
     let id : ℕ = s.context.key (global.Buffer r) in
     let buffer = d.buffers r resource uses at in
     let does = ap (λ o. gives (result s.context place) (length_of s.made s.bindings s.launch o) t) (fixed_here s t id (Pointer id []) buffer.variable.pointer) ∙ ap (λ o. gives (result s.context place) o t) (length_is s r resource id words buffer) in
-    value_line s d i env place regs t to ty.Int 68 (id ∷ 0 ∷ []) Lengths (source.Number (slice_index s.launch.sizes r)) h one tt refl does has
+    value_line s d i env place regs t to ty.Int 68 (id ∷ 0 ∷ []) Lengths (source.Number (slice_index s.launch.sizes r)) h one tt refl refl does has

@@ -17,10 +17,10 @@ use Rattle.spirv_code.specs.Plans.{inst, result, type_id}
 use Rattle.spirv_code.specs.Reads.{Env, with_id, read_size, read_code, read_id, two_size, two_code, second_id, three_size, three_code, keep_code}
 use Rattle.spirv_code.specs.Lines.{value_code, bin_code, select_code, one_code, one_opcode, copy_code}
 use Rattle.line_runs.specs.Held.{Setting, Held, Has, IsOf, machine, as_value}
-use Rattle.line_runs.specs.Declared.{Declares}
+use Rattle.line_runs.specs.Declared.{Declares, gives_result}
 use Rattle.line_runs.proofs.Tests.{with_at}
 use Rattle.line_runs.proofs.Pieces.{leads_one, has_front, has_back}
-use Rattle.line_runs.proofs.Results.{gave, gave_here, gave_held}
+use Rattle.line_runs.proofs.Results.{gave, result_at, gave_here, gave_held}
 use Rattle.line_runs.specs.Ready.{Ready, IsSet}
 use Rattle.line_runs.specs.Done.{Done}
 use Rattle.line_runs.proofs.Keeping.{keep}
@@ -39,10 +39,10 @@ joined s i front back n env place regs t t1 is first rest =
     }
 
 -- an instruction whose result a register takes
-pub value_line : (s : Setting) → Declares s → (i : ℕ) (env : Env) (place : ℕ) (regs : Registers) (t : State) (to : Reg) (type : Ty) (opcode : ℕ) (operands : List ℕ) (kind : Kind) (v : source.Value) → Held s env place regs t → IsSet s to type → IsOf type (as_value v) → kind_of opcode ≡ Some kind → act s.made s.bindings s.launch i kind (type_id s.context type ∷ result s.context place ∷ operands) t ≡ Quiet [] (gave s place (as_value v) t) → Has s.made place (value_code s.context place to type opcode operands) → Done s i (value_code s.context place to type opcode operands) (with_id to (result s.context place) env) place (with_at to (Some v) regs) t
-value_line s d i env place regs t to type opcode operands kind v h one of is does has =
+pub value_line : (s : Setting) → Declares s → (i : ℕ) (env : Env) (place : ℕ) (regs : Registers) (t : State) (to : Reg) (type : Ty) (opcode : ℕ) (operands : List ℕ) (kind : Kind) (v : source.Value) → Held s env place regs t → IsSet s to type → IsOf type (as_value v) → kind_of opcode ≡ Some kind → gives_result kind ≡ true → act s.made s.bindings s.launch i kind (type_id s.context type ∷ result s.context place ∷ operands) t ≡ Quiet [] (gave s place (as_value v) t) → Has s.made place (value_code s.context place to type opcode operands) → Done s i (value_code s.context place to type opcode operands) (with_id to (result s.context place) env) place (with_at to (Some v) regs) t
+value_line s d i env place regs t to type opcode operands kind v h one of is gives_it does has =
     let first = leads_one s i t (gave s place (as_value v) t) place opcode (type_id s.context type ∷ result s.context place ∷ operands) kind h.at has.0 is does in
-    let rest = (keep s d i env (place + 1) regs (gave s place (as_value v) t) to type v (result s.context place) (gave_held s env place regs t (as_value v) h) one of (gave_here s d place (as_value v) t) has.1).done in
+    let rest = (keep s d i env (place + 1) regs (gave s place (as_value v) t) to type v (result s.context place) (gave_held s env place regs t (as_value v) h) one of (gave_here s d place (result_at s place opcode _ kind has.0 is gives_it) (as_value v) t) has.1).done in
     joined s i (inst opcode (type_id s.context type ∷ result s.context place ∷ operands) ∷ []) (keep_code s.context to type (result s.context place)) 1 (with_id to (result s.context place) env) place (with_at to (Some v) regs) t (gave s place (as_value v) t) refl first rest
 
 pub two_gives : (s : Setting) (place a b : ℕ) (t : State) (wa wb w : Value) (f : Option Value → Option Value → Option Value) → value_of s.made t a ≡ Some wa → value_of s.made t b ≡ Some wb → f (Some wa) (Some wb) ≡ Some w → gives (result s.context place) (f (value_of s.made t a) (value_of s.made t b)) t ≡ Quiet [] (gave s place w t)
@@ -61,7 +61,7 @@ bin_line s d i env place regs t to opcode type of a b v ra rb one bin h has =
     let wa = two.left_is ∙ ap Some (two.left_same bin.x bin.left) in
     let wb = two.right_is ∙ ap Some (two.right_same bin.y bin.right) in
     let does = two_gives s (place + n) (read_id s.context env place a) (second_id s.context env place a b) two.t' (as_value bin.x) (as_value bin.y) (as_value v) bin.does.0 wa wb bin.does.2 in
-    let rest = value_line s d i env (place + n) regs two.t' to of opcode ids (Two_operands bin.does.0) v two.held one bin.of bin.does.1 does behind in
+    let rest = value_line s d i env (place + n) regs two.t' to of opcode ids (Two_operands bin.does.0) v two.held one bin.of bin.does.1 refl does behind in
     joined s i front back n (with_id to (result s.context (place + n)) env) place (with_at to (Some v) regs) t two.t' (two_length s.context env place a b) two.leads rest
 
 -- a choice of two values of one type
@@ -108,7 +108,7 @@ one_line s d i env place regs t to op a x ra one is h has =
     let at_id = first.is ∙ ap Some (first.same (source.Number x) is) in
     let f = one_does op x in
     let does = ap (λ o. gives (result s.context (place + n)) (f.0 o) first.t') at_id ∙ ap (λ o. gives (result s.context (place + n)) o first.t') f.2 in
-    let rest = value_line s d i env (place + n) regs first.t' to ty.Int (one_opcode op) (id ∷ []) (One_operand f.0) (source.Number (one_op op x)) first.held one tt f.1 does behind in
+    let rest = value_line s d i env (place + n) regs first.t' to ty.Int (one_opcode op) (id ∷ []) (One_operand f.0) (source.Number (one_op op x)) first.held one tt f.1 refl does behind in
     joined s i front back n (with_id to (result s.context (place + n)) env) place (with_at to (Some (source.Number (one_op op x))) regs) t first.t' (read_length s.context env place a) first.leads rest
 
 -- a choice between two operands
@@ -125,7 +125,7 @@ select_line s d i env place regs t to type x a b c v rx ra rb one is_c is_v h ha
     let of : IsOf type (as_value v) = subst (λ w. IsOf type w) chosen (either c three.left three.right three.left_type three.right_type) in
     let gives_it : selected (value_of s.made three.t' (read_id s.context env place x)) (value_of s.made three.t' (read_id s.context env place1 a)) (value_of s.made three.t' (second_id s.context env place1 a b)) ≡ Some (as_value v) = ap (λ o. selected o (value_of s.made three.t' (read_id s.context env place1 a)) (value_of s.made three.t' (second_id s.context env place1 a b))) (three.first_is ∙ ap Some (three.first_same (source.Truth c) is_c)) ∙ ap (λ o. selected (Some (Truth c)) o (value_of s.made three.t' (second_id s.context env place1 a b))) three.left_is ∙ ap (λ o. selected (Some (Truth c)) (Some three.left) o) three.right_is ∙ select_gives type c three.left three.right three.left_type three.right_type ∙ ap Some chosen in
     let does = ap (λ o. gives (result s.context (place + n)) o three.t') gives_it in
-    let rest = value_line s d i env (place + n) regs three.t' to type 169 ids Chooses v three.held one of refl does behind in
+    let rest = value_line s d i env (place + n) regs three.t' to type 169 ids Chooses v three.held one of refl refl does behind in
     joined s i front back n (with_id to (result s.context (place + n)) env) place (with_at to (Some v) regs) t three.t' (three_length s.context env place x a b) three.leads rest
   where
     either : (c : Bool) (l r : Value) → IsOf type l → IsOf type r → IsOf type (if c then l else r)

@@ -22,7 +22,7 @@ use Rattle.line_runs.specs.Declared.{Declares, IsVariable}
 use Rattle.line_runs.specs.Ready.{Ready}
 use Rattle.line_runs.proofs.Tests.{none_some, some_inj, if_true}
 use Rattle.line_runs.proofs.Pieces.{leads_one, has_front, has_back}
-use Rattle.line_runs.proofs.Results.{gave, Keeps, fixed_here, gave_here, gave_keeps, gave_held}
+use Rattle.line_runs.proofs.Results.{gave, Keeps, fixed_here, result_at, gave_here, gave_keeps, gave_held}
 
 -- an operand that was read: a value of its type is there, and it is the program's where that has one
 pub record Reading (s : Setting) (i : ℕ) (env : Env) (place : ℕ) (regs : Registers) (t : State) (a : Operand) (type : Ty) (n id : ℕ) : Type 0 where
@@ -72,7 +72,7 @@ read_variable s d i env place regs t reg type variable slot h has =
       keeps = gave_keeps s place k.0 t (h.fresh place (omega arith));
       locals = λ v. refl;
       worth = k.0;
-      is = gave_here s d place k.0 t;
+      is = gave_here s d place (result_at s place 61 _ Loads has.0 refl refl) k.0 t;
       type_is = k.2;
       same = k.3;
     }

@@ -1,12 +1,12 @@
 -- A result that an instruction gives: it is there, nothing that was there is lost, and what was held is held.
 use Rattle.std.proofs.Common.{◌≡◌, ℕ, suc, ◌+◌, Bool, true, false, Option, Some, None, refl, sym, ap, ◌∙◌, arith}
-use Rattle.std.specs.Prelude.{nat_eq, if◌then◌else◌}
+use Rattle.std.specs.Prelude.{List, nat_eq, slice_get, if◌then◌else◌}
 use Rattle.dxil_meaning.specs.Source.{Registers}
-use Rattle.spirv_meaning.specs.Target.{Value, State, fixed, or_result, value_of, with_value}
-use Rattle.spirv_code.specs.Plans.{result}
+use Rattle.spirv_meaning.specs.Target.{Value, State, Kind, kind_of, fixed, or_result, value_of, with_value}
+use Rattle.spirv_code.specs.Plans.{inst, result}
 use Rattle.spirv_code.specs.Reads.{Env}
 use Rattle.line_runs.specs.Held.{Setting, Held}
-use Rattle.line_runs.specs.Declared.{Declares}
+use Rattle.line_runs.specs.Declared.{Declares, HasResult, gives_result}
 use Rattle.line_runs.proofs.Tests.{none_some, nat_eq-eq, with_value_here, with_value_there}
 
 -- the state behind an instruction at this place that gives this value
@@ -21,9 +21,14 @@ Keeps s t t' = (id : ℕ) (x : Value) → value_of s.made t id ≡ Some x → va
 pub fixed_here : (s : Setting) (t : State) (id : ℕ) (w : Value) → fixed s.made id ≡ Some w → value_of s.made t id ≡ Some w
 fixed_here s t id w e = ap (λ o. or_result o (t.results id)) e
 
-pub gave_here : (s : Setting) → Declares s → (place : ℕ) (w : Value) (t : State) → value_of s.made (gave s place w t) (result s.context place) ≡ Some w
-gave_here s d place w t =
-    ap (λ o. or_result o (with_value (result s.context place) (Some w) t.results (result s.context place))) (d.results place) ∙ with_value_here (result s.context place) (Some w) t.results
+-- an instruction of this opcode at the place has a result
+pub result_at : (s : Setting) (place opcode : ℕ) (operands : List ℕ) (kind : Kind) → slice_get s.made.insts place ≡ Some (inst opcode operands) → kind_of opcode ≡ Some kind → gives_result kind ≡ true → HasResult s place
+result_at s place opcode operands kind here known gives =
+    record { i = inst opcode operands; kind = kind; here = here; known = known; gives = gives }
+
+pub gave_here : (s : Setting) → Declares s → (place : ℕ) → HasResult s place → (w : Value) (t : State) → value_of s.made (gave s place w t) (result s.context place) ≡ Some w
+gave_here s d place has w t =
+    ap (λ o. or_result o (with_value (result s.context place) (Some w) t.results (result s.context place))) (d.results place has) ∙ with_value_here (result s.context place) (Some w) t.results
 
 pub gave_keeps : (s : Setting) (place : ℕ) (w : Value) (t : State) → t.results (result s.context place) ≡ None → Keeps s t (gave s place w t)
 gave_keeps s place w t none id x e = by_fixed (fixed s.made id) e

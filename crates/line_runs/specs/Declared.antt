@@ -7,8 +7,10 @@ use Rattle.dxil_form.specs.declared.program.Resource.{Resource}
 use Rattle.dxil_form.specs.declared.program.Kind.{Kind}
 use Rattle.dxil_form.specs.declared.program.Kind.TheVariants as kind
 use Rattle.dxil_form.specs.Registers.{Spot, Sets}
+use Rattle.spv_form.specs.declared.module.Inst.{Inst}
 use Rattle.spirv_meaning.specs.Names.{begun_at}
-use Rattle.spirv_meaning.specs.Target.{Value, Pointer, Word, Truth, fixed, is_integer, has_type, pointee, is_class, label_at, decoration, local_size, buffer_of, over_vectors, shared_number, shared_size}
+use Rattle.spirv_meaning.specs.Target as spv
+use Rattle.spirv_meaning.specs.Target.{Value, Pointer, Word, Truth, Loads, Chains, Lengths, Extracts, Chooses, One_operand, Two_operands, Atomics, Swaps, kind_of, fixed, is_integer, has_type, pointee, is_class, label_at, decoration, local_size, buffer_of, over_vectors, shared_number, shared_size}
 use Rattle.spirv_code.specs.declared.key.Global.TheVariants as global
 use Rattle.spirv_code.specs.declared.key.Sort.TheVariants as sort
 use Rattle.spirv_code.specs.declared.key.BuiltIn.{BuiltIn}
@@ -68,7 +70,28 @@ pub record IsArray (s : Setting) (a id : ℕ) : Type 0 where
   pub number : shared_number s.made.insts id 0 ≡ Some a
   pub size : shared_size s.made id ≡ slice_index s.program.shared a
 
--- Constants and variables have the values that their keys say; the thread counts are the program's; results are declared nowhere; a label inside a leaf stands at its own place alone and begins no block; no two variables of the function share an id; and a register's variable is of the type with which it is set.
+-- an instruction of the kind gives a value to an id of its own
+abbrev pub gives_result : spv.Kind → Bool
+gives_result Loads = true
+gives_result Chains = true
+gives_result Lengths = true
+gives_result Extracts = true
+gives_result Chooses = true
+gives_result (One_operand f) = true
+gives_result (Two_operands f) = true
+gives_result (Atomics op) = true
+gives_result Swaps = true
+gives_result _ = false
+
+-- an instruction of such a kind stands at the place
+pub record HasResult (s : Setting) (place : ℕ) : Type 0 where
+  pub i : Inst
+  pub kind : spv.Kind
+  pub here : slice_get s.made.insts place ≡ Some i
+  pub known : kind_of i.opcode ≡ Some kind
+  pub gives : gives_result kind ≡ true
+
+-- Constants and variables have the values that their keys say; the thread counts are the program's; the result of an instruction is declared nowhere; a label inside a leaf stands at its own place alone and begins no block; no two variables of the function share an id; and a register's variable is of the type with which it is set.
 pub record Declares (s : Setting) : Type 0 where
   pub numbers : (n : ℕ) → Uses s (global.Number n) → fixed s.made (s.context.key (global.Number n)) ≡ Some (Word n)
   pub truths : (b : Bool) → Uses s (global.Truth b) → fixed s.made (s.context.key (global.Truth b)) ≡ Some (Truth b)
@@ -77,7 +100,7 @@ pub record Declares (s : Setting) : Type 0 where
   pub buffers : (r : ℕ) (resource : Resource) → Uses s (global.Buffer r) → slice_get s.program.resources r ≡ Some resource → IsBuffer s r resource (s.context.key (global.Buffer r))
   pub arrays : (a : ℕ) → Uses s (global.Shared a) → IsArray s a (s.context.key (global.Shared a))
   pub local : local_size s.made.insts ≡ s.program.local
-  pub results : (place : ℕ) → fixed s.made (result s.context place) ≡ None
+  pub results : (place : ℕ) → HasResult s place → fixed s.made (result s.context place) ≡ None
   pub inner : (place : ℕ) → slice_get s.made.insts place ≡ Some (inst 248 (result s.context place ∷ [])) → (label_at s.made.insts (result s.context place) 0 ≡ Some place) × (begun_at s.made place ≡ [])
   pub locals : (slot : Slot) (id : ℕ) → s.context.slot slot ≡ Some id → IsLocal s slot id
   pub apart : (a b : Slot) (id : ℕ) → s.context.slot a ≡ Some id → s.context.slot b ≡ Some id → a ≡ b

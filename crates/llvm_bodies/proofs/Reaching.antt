@@ -9,7 +9,7 @@ use Rattle.dx_base.proofs.FirstLaws.{clear_none, clear_more, first_here, sound_o
 use Rattle.dx_base.proofs.SentenceLaws.{least_stated, none_stated}
 use Rattle.dx_base.specs.declared.fault.Fault.{Fault}
 use Rattle.dx_base.specs.declared.fault.Fault.TheVariants.{Refused, Limit, OutOfMemory}
-use Rattle.dx_base.specs.declared.fault.Rule.TheVariants.{C, B, Y, M, N, P, NotYet}
+use Rattle.dx_base.specs.declared.fault.Rule.TheVariants.{C, B, Y, M, N, P}
 use Rattle.dx_base.specs.declared.fault.Which.TheVariants.{File, Records, Fields, Blocks, Instructions, Cases, PhiEntries, Resources}
 use Rattle.bitstream_spelling.specs.Framed.{IsFramed, LiesIn, open_after, open_behind}
 use Rattle.bitstream_spelling.specs.Rules.{records, is_record}
@@ -51,7 +51,6 @@ tells_on F G f (Refused (Y rule) bit) t = t
 tells_on F G f (Refused (M rule) bit) t = (t.0, f rule bit t.1)
 tells_on F G f (Refused (N rule) bit) t = t
 tells_on F G f (Refused (P rule) bit) t = t
-tells_on F G f (Refused NotYet bit) t = t
 tells_on F G f (Limit File bit) t = t
 tells_on F G f (Limit Records bit) t = t
 tells_on F G f (Limit Fields bit) t = t

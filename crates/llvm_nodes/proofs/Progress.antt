@@ -21,7 +21,7 @@ use Rattle.llvm_nodes.specs.declared.item.Meta.{Meta}
 use Rattle.llvm_nodes.specs.declared.item.Named.{Named}
 use Rattle.dx_base.specs.declared.fault.Fault.{Fault}
 use Rattle.dx_base.specs.declared.fault.Fault.TheVariants.{Refused, Limit, OutOfMemory}
-use Rattle.dx_base.specs.declared.fault.Rule.TheVariants.{C, B, Y, M, N, P, NotYet}
+use Rattle.dx_base.specs.declared.fault.Rule.TheVariants.{C, B, Y, M, N, P}
 
 numbered_more : (is : List Item) (x : Item) → numbered (is ++ x ∷ []) ≡ numbered is ++ (if is_numbered (site_of is x) then site_of is x ∷ [] else [])
 numbered_more is x = ap (filter is_numbered) (sites_more is x) ∙ filter-append is_numbered (sites is) (site_of is x ∷ [])
@@ -143,7 +143,6 @@ module _ (list : List Item) (fs : List ℕ) (types values index : ℕ) (counts :
   fault_stops new (Refused (M rule) bit) f a = a
   fault_stops new (Refused (N rule) bit) f a = reading_stops rule bit f a.0 a.1 a.2
   fault_stops new (Refused (P rule) bit) f a = a
-  fault_stops new (Refused NotYet bit) f a = a
   fault_stops new (Limit which bit) f a = a
   fault_stops new OutOfMemory f a = a
 

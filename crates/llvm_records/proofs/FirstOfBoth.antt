@@ -5,7 +5,7 @@ use Rattle.dx_base.specs.First.{IsFirst, IsSound}
 use Rattle.dx_base.specs.Sentences.{holds}
 use Rattle.dx_base.specs.declared.fault.Fault.{Fault}
 use Rattle.dx_base.specs.declared.fault.Fault.TheVariants.{Refused, Limit, OutOfMemory}
-use Rattle.dx_base.specs.declared.fault.Rule.TheVariants.{C, B, Y, M, N, P, NotYet}
+use Rattle.dx_base.specs.declared.fault.Rule.TheVariants.{C, B, Y, M, N, P}
 use Rattle.dx_base.specs.declared.fault.Which.{Which}
 use Rattle.dx_base.specs.declared.fault.Which.TheVariants.{File, Records, Fields, Blocks, Instructions, Cases, PhiEntries, Resources}
 use Rattle.bitstream_spelling.specs.declared.item.Item.{Item}
@@ -97,7 +97,6 @@ module _ (is : List Item) (fs : List ℕ) where
     by_bodies (Err (Refused (Y n) at)) a = absurd a
     by_bodies (Err (Refused (N n) at)) a = absurd a
     by_bodies (Err (Refused (P n) at)) a = absurd a
-    by_bodies (Err (Refused NotYet at)) a = absurd a
     by_bodies (Err (Limit Blocks at)) a = by_limit Blocks 12 at (nat_lt at bit) refl a (λ f. f)
     by_bodies (Err (Limit Instructions at)) a = by_limit Instructions 13 at (nat_lt at bit) refl a (λ f. f)
     by_bodies (Err (Limit Cases at)) a = by_limit Cases 14 at (nat_lt at bit) refl a (λ f. f)
@@ -112,7 +111,6 @@ module _ (is : List Item) (fs : List ℕ) where
   of_answers (Refused (Y n) bit) bodies f answer = absurd f
   of_answers (Refused (N n) bit) bodies f answer = absurd f
   of_answers (Refused (P n) bit) bodies f answer = absurd f
-  of_answers (Refused NotYet bit) bodies f answer = absurd f
   of_answers (Limit which bit) bodies f answer = absurd f
   of_answers OutOfMemory bodies f answer = tt
 
@@ -129,7 +127,6 @@ module _ (is : List Item) (fs : List ℕ) where
     by_fault (Refused (Y n) bit) a = absurd a
     by_fault (Refused (N n) bit) a = absurd a
     by_fault (Refused (P n) bit) a = absurd a
-    by_fault (Refused NotYet bit) a = absurd a
     by_fault (Limit Blocks bit) a = first 12 bit a
     by_fault (Limit Instructions bit) a = first 13 bit a
     by_fault (Limit Cases bit) a = first 14 bit a

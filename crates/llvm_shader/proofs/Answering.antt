@@ -4,7 +4,7 @@ use Rattle.std.proofs.lemmas.Bool.{ne_eqb}
 use Rattle.dx_base.specs.First.{IsSound}
 use Rattle.dx_base.specs.declared.fault.Fault.{Fault}
 use Rattle.dx_base.specs.declared.fault.Fault.TheVariants.{Refused, Limit, OutOfMemory}
-use Rattle.dx_base.specs.declared.fault.Rule.TheVariants.{C, B, Y, M, N, P, NotYet}
+use Rattle.dx_base.specs.declared.fault.Rule.TheVariants.{C, B, Y, M, N, P}
 use Rattle.dx_base.specs.declared.fault.Which.TheVariants.{File, Records, Fields, Blocks, Instructions, Cases, PhiEntries, Resources}
 use Rattle.bitstream_spelling.specs.declared.item.Item.{Item}
 use Rattle.llvm_types.specs.Types.{types_of}
@@ -37,7 +37,6 @@ module _ (is : List Item) (fs : List ℕ) where
   types_refused (Refused (M n) bit) a = absurd a
   types_refused (Refused (N n) bit) a = absurd a
   types_refused (Refused (P n) bit) a = absurd a
-  types_refused (Refused NotYet bit) a = absurd a
   types_refused (Limit which bit) a = absurd a
   types_refused OutOfMemory a = tt
 
@@ -48,7 +47,6 @@ module _ (is : List Item) (fs : List ℕ) where
   records_refused (Refused (Y n) bit) s a = absurd a
   records_refused (Refused (N n) bit) s a = absurd a
   records_refused (Refused (P n) bit) s a = absurd a
-  records_refused (Refused NotYet bit) s a = absurd a
   records_refused (Limit Blocks bit) s a = of_records 12 bit s a
   records_refused (Limit Instructions bit) s a = of_records 13 bit s a
   records_refused (Limit Cases bit) s a = of_records 14 bit s a
@@ -69,7 +67,6 @@ module _ (is : List Item) (fs : List ℕ) where
     by_fault (Refused (Y n) bit) a = absurd a
     by_fault (Refused (M n) bit) a = absurd a
     by_fault (Refused (P n) bit) a = absurd a
-    by_fault (Refused NotYet bit) a = absurd a
     by_fault (Limit which bit) a = absurd a
     by_fault OutOfMemory a = tt
 
@@ -95,7 +92,6 @@ module _ (is : List Item) (fs : List ℕ) where
     by_answer (Err (Refused (Y n) bit)) f = absurd f
     by_answer (Err (Refused (M n) bit)) f = absurd f
     by_answer (Err (Refused (P n) bit)) f = absurd f
-    by_answer (Err (Refused NotYet bit)) f = absurd f
     by_answer (Err (Limit which bit)) f = absurd f
     by_answer (Err OutOfMemory) f = tt
 

@@ -19,7 +19,7 @@ use Rattle.llvm_types.specs.Rules.{Broken, sentences, tests}
 use Rattle.llvm_types.specs.declared.read.Reader.{Reader}
 use Rattle.dx_base.specs.declared.fault.Fault.{Fault}
 use Rattle.dx_base.specs.declared.fault.Fault.TheVariants.{Refused, Limit, OutOfMemory}
-use Rattle.dx_base.specs.declared.fault.Rule.TheVariants.{C, B, Y, M, N, P, NotYet}
+use Rattle.dx_base.specs.declared.fault.Rule.TheVariants.{C, B, Y, M, N, P}
 use Rattle.llvm_types.specs.declared.kind.LlvmType.{LlvmType}
 
 numbered_more : (is : List Item) (x : Item) → numbered (is ++ x ∷ []) ≡ numbered is ++ (if is_numbered (site_of is x) then site_of is x ∷ [] else [])
@@ -100,7 +100,6 @@ module _ (list : List Item) (fs : List ℕ) (index count : ℕ) (r : Reader) (d 
   fault_stops new (Refused (M rule) bit) f a = a
   fault_stops new (Refused (N rule) bit) f a = a
   fault_stops new (Refused (P rule) bit) f a = a
-  fault_stops new (Refused NotYet bit) f a = a
   fault_stops new (Limit which bit) f a = a
   fault_stops new OutOfMemory f a = a
 

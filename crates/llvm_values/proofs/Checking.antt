@@ -10,7 +10,7 @@ use Rattle.dx_base.proofs.FirstLaws.{clear_none, clear_more, first_here, sound_o
 use Rattle.dx_base.proofs.SentenceLaws.{least_stated, none_stated}
 use Rattle.dx_base.specs.declared.fault.Fault.{Fault}
 use Rattle.dx_base.specs.declared.fault.Fault.TheVariants.{Refused, Limit, OutOfMemory}
-use Rattle.dx_base.specs.declared.fault.Rule.TheVariants.{C, B, Y, M, N, P, NotYet}
+use Rattle.dx_base.specs.declared.fault.Rule.TheVariants.{C, B, Y, M, N, P}
 use Rattle.bitstream_spelling.specs.Framed.{IsFramed, bit_of, open_after, open_behind}
 use Rattle.bitstream_spelling.specs.declared.item.Item.{Item}
 use Rattle.llvm_items.specs.Sites.{Site, sites, enters, bit_at}
@@ -107,7 +107,6 @@ module _ (list : List Item) (fs : List ℕ) (types : List LlvmType) (index : ℕ
   fault_stops new (Refused (M rule) bit) f a = checking_stops rule bit f a.0 a.1 a.2
   fault_stops new (Refused (N rule) bit) f a = a
   fault_stops new (Refused (P rule) bit) f a = a
-  fault_stops new (Refused NotYet bit) f a = a
   fault_stops new (Limit which bit) f a = a
   fault_stops new OutOfMemory f a = a
 

@@ -53,7 +53,7 @@ pub record Base (s : Setting) : Type 0 where
 
 -- ---- variables
 
-slot_self : (s : Slot) → same_slot s s ≡ true
+pub slot_self : (s : Slot) → same_slot s s ≡ true
 slot_self (Next v p t) = both (nat_eq v v) (nat_eq p p && same_truth t t) (nat_eq-refl v) (both (nat_eq p p) (same_truth t t) (nat_eq-refl p) (truth_self t))
 slot_self (Kept v p t) = both (nat_eq v v) (nat_eq p p && same_truth t t) (nat_eq-refl v) (both (nat_eq p p) (same_truth t t) (nat_eq-refl p) (truth_self t))
 slot_self Want = refl

@@ -4,7 +4,7 @@ use Rattle.dxil_form.specs.Branches.{has}
 use Rattle.spv_form.specs.declared.module.Inst.{Inst}
 use Rattle.dxil_meaning.specs.Source.{case_of}
 use Rattle.spirv_meaning.specs.Target as spv
-use Rattle.spirv_meaning.specs.Target.{Value, Word, State, value_of, next}
+use Rattle.spirv_meaning.specs.Target.{Value, Word, State, Loads, value_of, next}
 use Rattle.spirv_code.specs.declared.key.Global.TheVariants as global
 use Rattle.spirv_code.specs.declared.key.Slot.TheVariants.{Want, Pick}
 use Rattle.spirv_code.specs.Plans.{result}
@@ -14,7 +14,7 @@ use Rattle.line_runs.specs.Held.{Has, Uses}
 use Rattle.line_runs.specs.Exits.{Keeps}
 use Rattle.line_runs.proofs.Tests.{with_value_there}
 use Rattle.line_runs.proofs.Pieces.{has_front, has_back}
-use Rattle.line_runs.proofs.Results.{gave, gave_here}
+use Rattle.line_runs.proofs.Results.{gave, result_at, gave_here}
 use Rattle.region_runs.proofs.Ways.{Scene, Label, Forth, forth_one, forth_on, forth_none}
 use Rattle.region_runs.proofs.Steps.{at_label, inst_there, pass, pass_label, switch}
 use Rattle.region_runs.proofs.Wanting.{has_place, load, put, put_holds, put_keeps}
@@ -98,7 +98,7 @@ chunk_goes e place n w q cases ks t has h at ahead label =
     let at1 : suc t.at ≡ place + 1 = omega (arith, at) in
     let second = forth_one e t1 (next t1) (omega arith) (pass e (place + 1) 247 (chunk_meet c place ks ∷ 0 ∷ []) t1 at1 has.1.0 refl) in
     let at2 : suc (suc t.at) ≡ place + 1 + 1 = omega (arith, at) in
-    let third = forth_one e (next t1) (at_label q t) (omega (arith, at, ahead)) (switch e (place + 1 + 1) (result c place) (chunk_meet c place ks) q (pairs (setter_label (result c (place + 3)) ks) cases) (next t1) n at2 has.1.1.0 (gave_here e.s e.declares place (Word n) t) label) in
+    let third = forth_one e (next t1) (at_label q t) (omega (arith, at, ahead)) (switch e (place + 1 + 1) (result c place) (chunk_meet c place ks) q (pairs (setter_label (result c (place + 3)) ks) cases) (next t1) n at2 has.1.1.0 (gave_here e.s e.declares place (result_at e.s place 61 _ Loads has.0 refl refl) (Word n) t) label) in
     forth_on e t t1 (at_label q t) first (forth_on e t1 (next t1) (at_label q t) second third)
 
 moved_picking : (e : Scene) (n v p : ℕ) (u : State) → Picking e n v u → Picking e n v (at_label p u)

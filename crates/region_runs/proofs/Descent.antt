@@ -6,13 +6,13 @@ use Rattle.dxil_form.specs.Walks.{EnteredBy}
 use Rattle.dxil_form.specs.Walks.EnteredBy.{by_block, by_head, by_first, by_source, by_start}
 use Rattle.dxil_meaning.proofs.Simulation.{leads_none}
 use Rattle.spirv_meaning.specs.Names.{begun_at}
-use Rattle.spirv_meaning.specs.Target.{State, Word, next}
+use Rattle.spirv_meaning.specs.Target.{State, Word, Loads, next}
 use Rattle.spirv_code.specs.declared.key.Slot.TheVariants.{Want}
 use Rattle.spirv_code.specs.Plans.{result, site_label, body_label, continue_label, merge_label, chosen_label}
 use Rattle.spirv_code.specs.Trees.{Tree, Loop, Dispatch, Arms, entry_of, label_at, entered_arms, tree_at}
 use Rattle.spirv_code.specs.Rows.{arm_pairs}
 use Rattle.line_runs.specs.Held.{machine}
-use Rattle.line_runs.proofs.Results.{gave, gave_here}
+use Rattle.line_runs.proofs.Results.{gave, result_at, gave_here}
 use Rattle.region_runs.specs.Standing.{HasWant}
 use Rattle.region_runs.proofs.Ways.{Scene, Label, NoResults, Forth, forth_one, forth_on, Comes, then_comes}
 use Rattle.region_runs.proofs.Steps.{at_label, moved, jump, switch, pass, pass_label, pass_to}
@@ -67,7 +67,7 @@ dispatch_enters e region k arms head place t a st at wants =
     let sixth = forth_one e t3 (next t3) (omega arith) (pass e (place + 4) 247 (chosen_label region ∷ 0 ∷ []) t3 at4 parts.select refl) in
     let at5 : suc (suc (suc (place + 2))) ≡ place + 5 = omega arith in
     let label = subst (λ l. Label e q l) (sym (case_taken arms k (chosen_label region) (label_at a.tree) a.label)) arm.stands.label in
-    let seventh = forth_one e (next t3) (at_label q t) (omega (arith, behind)) (switch e (place + 5) (result c (place + 3)) (chosen_label region) q (arm_pairs arms) (next t3) k at5 parts.switch (gave_here e.s e.declares (place + 3) (Word k) (next t2)) label) in
+    let seventh = forth_one e (next t3) (at_label q t) (omega (arith, behind)) (switch e (place + 5) (result c (place + 3)) (chosen_label region) q (arm_pairs arms) (next t3) k at5 parts.switch (gave_here e.s e.declares (place + 3) (result_at e.s (place + 3) 61 _ Loads parts.load refl refl) (Word k) (next t2)) label) in
     let l6 = forth_on e t3 (next t3) (at_label q t) sixth seventh in
     let l5 = forth_on e (next t2) t3 (at_label q t) fifth l6 in
     let l4 = forth_on e t2 (next t2) (at_label q t) fourth l5 in

@@ -4,7 +4,7 @@ use Rattle.std.specs.Prelude.{nat_eq, if◌then◌else◌}
 use Rattle.spv_form.specs.declared.module.Inst.{Inst}
 use Rattle.dxil_meaning.proofs.Simulation.{leads_on}
 use Rattle.spirv_meaning.specs.Names.{begun_at}
-use Rattle.spirv_meaning.specs.Target.{Word, Truth, Value, State, Stores, Loads, on_tests, value_of, next}
+use Rattle.spirv_meaning.specs.Target.{Word, Truth, Value, State, Stores, Loads, Two_operands, on_tests, value_of, next}
 use Rattle.spirv_code.specs.declared.key.Slot.{Slot}
 use Rattle.spirv_code.specs.declared.key.Slot.TheVariants.{Want, Pick}
 use Rattle.spirv_code.specs.declared.key.Global.TheVariants as global
@@ -15,7 +15,7 @@ use Rattle.line_runs.specs.Held.{Has, Uses, machine}
 use Rattle.line_runs.specs.Exits.{IsPasser, Keeps}
 use Rattle.line_runs.proofs.Tests.{some_inj, with_value_here, with_value_there}
 use Rattle.line_runs.proofs.Pieces.{leads_one, has_front}
-use Rattle.line_runs.proofs.Results.{gave, fixed_here, gave_here}
+use Rattle.line_runs.proofs.Results.{gave, fixed_here, result_at, gave_here}
 use Rattle.line_runs.proofs.Reading.{load_gives}
 use Rattle.line_runs.proofs.Combined.{two_words}
 use Rattle.line_runs.proofs.Keeping.{stored_at, store_does}
@@ -84,12 +84,12 @@ tested e place k w t at has wants uses =
     let t1 : State = gave e.s place (Word w) t in
     let first = load e place wants.id Want (Word w) t wants.slot wants.holds at has.0 in
     let behind : suc t.at ≡ place + 1 = omega (arith, at) in
-    let second = two_words e.s e.i (place + 1) 170 (bool_id c) (result c place) (number c k) t1 (Word w) (Word k) (Truth (nat_eq w k)) (on_tests nat_eq) behind has.1.0 refl (gave_here e.s e.declares place (Word w) t) (fixed_here e.s t1 (number c k) (Word k) (e.declares.numbers k uses)) refl in
+    let second = two_words e.s e.i (place + 1) 170 (bool_id c) (result c place) (number c k) t1 (Word w) (Word k) (Truth (nat_eq w k)) (on_tests nat_eq) behind has.1.0 refl (gave_here e.s e.declares place (result_at e.s place 61 _ Loads has.0 refl refl) (Word w) t) (fixed_here e.s t1 (number c k) (Word k) (e.declares.numbers k uses)) refl in
     leads_on (machine e.s) e.i 1 1 t t1 (tested_at e place w k t) [] [] first second
 
-pub test_is : (e : Scene) (place k w : ℕ) (t : State) → value_of e.s.made (tested_at e place w k t) (result e.s.context (place + 1)) ≡ Some (Truth (nat_eq w k))
-test_is e place k w t =
-    gave_here e.s e.declares (place + 1) (Truth (nat_eq w k)) (gave e.s place (Word w) t)
+pub test_is : (e : Scene) (place k w : ℕ) (t : State) → Has e.s.made place (is_wanted e.s.context place k) → value_of e.s.made (tested_at e place w k t) (result e.s.context (place + 1)) ≡ Some (Truth (nat_eq w k))
+test_is e place k w t has =
+    gave_here e.s e.declares (place + 1) (result_at e.s (place + 1) 170 _ (Two_operands _) has.1.0 refl refl) (Truth (nat_eq w k)) (gave e.s place (Word w) t)
 
 -- the head of a region that runs only where block k is wanted
 pub when_goes : (e : Scene) (place k w label region q : ℕ) (t : State) → t.at ≡ place → Has e.s.made place (when_head e.s.context place k label region) → Wanting e w t → Uses e.s (global.Number k) → place + 4 ≤ q → Label e q (if nat_eq w k then label else passed_label region) → Forth e t (at_label q t)
@@ -102,7 +102,7 @@ when_goes e place k w label region q t at has wants uses ahead there =
     let at2 : suc (suc t.at) ≡ place + 1 + 1 = omega (arith, at) in
     let three = pass e (place + 1 + 1) 247 (passed_label region ∷ 0 ∷ []) t2 at2 has.1.1.0 refl in
     let at3 : suc (suc (suc t.at)) ≡ place + 1 + 1 + 1 = omega (arith, at) in
-    let four = fork e (place + 1 + 1 + 1) (result c (place + 1)) label (passed_label region) q (next t2) (nat_eq w k) at3 has.1.1.1.0 (test_is e place k w t) there in
+    let four = fork e (place + 1 + 1 + 1) (result c (place + 1)) label (passed_label region) q (next t2) (nat_eq w k) at3 has.1.1.1.0 (test_is e place k w t front) there in
     let both = leads_on (machine e.s) e.i 2 1 t t2 (next t2) [] [] two three in
     record {
       n = 4;
@@ -127,6 +127,6 @@ footer_goes e region place k w there other q t at has wants uses none label =
     let s4 : State = tested_at e (place + 2) w k s2 in
     let test = tested e (place + 2) k w s2 refl front (record { id = wants.id; slot = wants.slot; holds = wants.holds }) uses in
     let at4 : suc (suc (place + 2)) ≡ place + 2 + 1 + 1 = omega arith in
-    let last = fork e (place + 2 + 1 + 1) (result c (place + 2 + 1)) there other q s4 (nat_eq w k) at4 back.1.1.0 (test_is e (place + 2) k w s2) label in
+    let last = fork e (place + 2 + 1 + 1) (result c (place + 2 + 1)) there other q s4 (nat_eq w k) at4 back.1.1.0 (test_is e (place + 2) k w s2 front) label in
     let four = leads_on (machine e.s) e.i 2 2 t s2 s4 [] [] two test in
     leads_on (machine e.s) e.i 4 1 t s4 (at_label q t) [] [] four last

@@ -1,6 +1,6 @@
 -- The ids of a module, as a function of how many regions there are and of what the module declares.
 --
--- 1 is the function, 2 the type void, 3 the type of the function. Then come eight labels for each region, the variables of the function, what the table declares, and the result or the label that the instruction at each place has.
+-- 1 is the function, 2 the type void, 3 the type of the function. Then come eight labels for each region, the variables of the function and what the table declares. The result or the label that the instruction at a place of the body has is counted from where the variables begin: an instruction for each variable and each declaration stands before the body, so that none of them has its id.
 use Rattle.std.specs.Prelude.{ℕ, ◌+◌, ◌*◌, Bool, true, false, List, length, Option, Some, None, slice_get, slice_index}
 use Rattle.dxil_form.specs.declared.value.Ty.{Ty}
 use Rattle.dxil_form.specs.declared.value.Ty.TheVariants as ty
@@ -71,7 +71,7 @@ abbrev pub table_from : Plan → ℕ
 table_from plan = slots_from plan + length plan.slots
 
 abbrev pub results_from : Plan → ℕ
-results_from plan = table_from plan + length plan.table
+results_from plan = slots_from plan
 
 abbrev pub global_id : Plan → Global → ℕ
 global_id plan g = table_from plan + index_of plan.table g

@@ -56,7 +56,7 @@ impl Tables {
         ensures id { result ≡ results_from (plan_of self.now) }
         ensures few { result ≤ 0x0300_0000 }
     {
-        4 + 8 * self.regions + self.slots.len() as u32 + self.table.len() as u32
+        self.slots_from()
     }
 }
 
