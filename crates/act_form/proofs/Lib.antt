@@ -1,0 +1,9 @@
+pub mod Pieces
+pub mod Accesses
+pub mod Lines
+pub mod Blocks
+pub mod Exits
+pub mod Orders
+pub mod Every
+pub mod Rows
+pub mod Whole

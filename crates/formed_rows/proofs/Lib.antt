@@ -1,0 +1,9 @@
+pub mod Pieces
+pub mod Blocks
+pub mod Switches
+pub mod Exits
+pub mod Readiness
+pub mod Rows
+pub mod Counted
+pub mod Wiring
+pub mod Whole

@@ -1,0 +1,9 @@
+pub mod Forms
+pub mod Texts
+pub mod Counting
+pub mod Interface
+pub mod Declared
+pub mod Framed
+pub mod Bound
+pub mod Bare
+pub mod Whole

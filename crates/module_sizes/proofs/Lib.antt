@@ -1,0 +1,17 @@
+pub mod Access
+pub mod Apart
+pub mod Below
+pub mod Blocks
+pub mod Budgets
+pub mod Common
+pub mod Counted
+pub mod Exits
+pub mod Framed
+pub mod Lines
+pub mod Reading
+pub mod Regions
+pub mod Rows
+pub mod Table
+pub mod Totals
+pub mod Variables
+pub mod Whole
