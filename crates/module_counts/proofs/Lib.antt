@@ -1,0 +1,4 @@
+pub mod Lines
+pub mod Rows
+pub mod Placed
+pub mod Whole

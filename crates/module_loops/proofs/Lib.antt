@@ -1,0 +1,5 @@
+pub mod Lower
+pub mod Tree
+pub mod Wiring
+pub mod Sums
+pub mod Whole

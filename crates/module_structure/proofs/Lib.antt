@@ -1,0 +1,10 @@
+pub mod Inner
+pub mod Tails
+pub mod Lines
+pub mod Members
+pub mod Exits
+pub mod Trees
+pub mod Ancestors
+pub mod Wiring
+pub mod Labelled
+pub mod Function

@@ -1,0 +1,17 @@
+pub mod Scan
+pub mod Over
+pub mod Held
+pub mod Closed
+pub mod Rows
+pub mod Spots
+pub mod Calm
+pub mod Sited
+pub mod Headed
+pub mod Headers
+pub mod Places
+pub mod Words
+pub mod Above
+pub mod Hung
+pub mod Named
+pub mod Function
+pub mod Whole
