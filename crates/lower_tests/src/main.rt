@@ -10,6 +10,7 @@ mod ops;
 mod random;
 mod samples;
 mod shapes;
+mod swap;
 mod words;
 
 use crate::graphs::{Exit, Node, Sample, random_sample};
@@ -20,7 +21,7 @@ use std::alloc::AllocError;
 use std::{env, io};
 
 /// How many programs there are of each graph.
-const ROUNDS: u32 = 36;
+const ROUNDS: u32 = 50;
 
 fn name_of(version: Version) -> &'static str {
     match version {
@@ -121,6 +122,7 @@ fn show_samples(rt: &HostRuntime, all: bool) -> io::Result<()> {
     show(rt, all, "empty", samples::empty_sample(alloc))?;
     show(rt, all, "thread-number", samples::thread_sample(alloc))?;
     show(rt, all, "ring", samples::ring_sample(alloc))?;
+    show(rt, all, "phi-swap", swap::swap_sample(alloc))?;
     show(
         rt,
         all,

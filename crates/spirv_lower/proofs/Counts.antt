@@ -1,8 +1,7 @@
 -- The counts of a program and of its regions fit in words.
-use Rattle.std.proofs.Common.{ℕ, ◌<◌, ◌≤◌, ◌^◌, List, [], ◌∷◌, length, sum, arith}
+use Rattle.std.proofs.Common.{◌<◌, ◌^◌, List, [], ◌∷◌, length, arith}
 use Rattle.std.specs.Prelude.{All}
-use Rattle.std.proofs.lemmas.List.Elements.{All-cons, All-head, All-nil, All-tail}
-use Rattle.std.proofs.lemmas.List.Sums.{sum_by-cons}
+use Rattle.std.proofs.lemmas.List.Elements.{All-cons, All-nil}
 use Rattle.dxil_form.specs.declared.program.Program.{Program}
 use Rattle.dxil_form.specs.declared.region.Region.{Region}
 use Rattle.dxil_form.specs.declared.block.Block.{Block}
@@ -10,17 +9,11 @@ use Rattle.dxil_form.specs.Sound.{Sound, lines_of}
 use Rattle.phi_entries.specs.Entries.{AreEntries, ArePlaces}
 use Rattle.dxil_form.specs.Wired.{Wired}
 use Rattle.spirv_code.specs.Needed.{AreWords}
+use Rattle.module_formed.proofs.Interface.{few_items}
 use Rattle.spirv_lower.specs.Counted.{AreCounted}
 use Rattle.spirv_table.specs.Tables.{AreFew}
 use Rattle.spirv_emit.specs.declared.scene.Scene.{Scene}
 use Rattle.spirv_regions.specs.Small.{IsSmall}
-
-few_items : (xs : List ℕ) → All (λ n. 1 ≤ n) xs → length xs ≤ sum xs
-few_items [] h = omega arith
-few_items (x ∷ xs) h =
-    let first = All-head (λ (n : ℕ). 1 ≤ n) x xs h in
-    let rest = few_items xs (All-tail (λ (n : ℕ). 1 ≤ n) x xs h) in
-    omega (arith, first, rest, sum_by-cons (λ (y : ℕ). y) x xs)
 
 words : (p : Program) → Sound p → AreWords p
 words p sound =

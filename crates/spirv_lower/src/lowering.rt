@@ -3,27 +3,59 @@ ghost use Rattle.dxil_form.specs.Sound.{Sound};
 ghost use Rattle.dxil_form.specs.Wired.{Wired};
 ghost use Rattle.phi_demotion.specs.Slots.{AreSlots};
 ghost use Rattle.resource_map.specs.Pairs.{pair_of};
+ghost use Rattle.spv_form.specs.Formed.{IsFormed};
 ghost use Rattle.spirv_meaning.specs.Bindings.{AreApart};
 ghost use Rattle.spirv_meaning.specs.Same.{Same};
 ghost use Rattle.spirv_code.specs.Frame.{module_of};
-ghost use Rattle.spirv_table.specs.Tables.{AreFew};
+ghost use Rattle.spirv_table.specs.Tables.{AreFew, plan_of};
 ghost use Rattle.chosen_plan.specs.Chosen.{plan_for};
+ghost use Rattle.module_sizes.specs.Sizes.{IsSmall};
+ghost use Rattle.module_form.specs.Form.{HasForm};
+ghost use Rattle.buffer_form.specs.Buffers.{HasBuffers};
+ghost use Rattle.site_form.specs.Sites.{HasSites};
+ghost use Rattle.act_form.specs.Acts.{HasActs};
 ghost use Rattle.spirv_lower.specs.Counted.{AreCounted};
 
 use crate::passing::wants;
 use crate::variables::find_variables;
+use act_form::module_has_acts;
+use buffer_form::module_has_buffers;
+use chosen_plan::plans_are_chosen;
 use dx_base::OutOfMemory;
 use dxil_form::{Program, Region, Regions};
+use module_form::module_has_form;
+use module_formed::modules_are_formed;
 use module_same::modules_are_same;
+use module_sizes::modules_are_small;
 use phi_demotion::Slots;
 use phi_entries::Entries;
 use resource_map::{Binding, Bindings};
+use site_form::module_has_sites;
 use spirv_emit::Scene;
 use spirv_frame::write;
 use spirv_keys::table_of;
 use spirv_table::Tables;
 use spv_form::{Module, Version};
 use std::alloc::Global;
+
+/// What the module of a program declares, over regions and slots that need not be its own.
+fn find_tables(
+    alloc: Global,
+    p: &Program,
+    list: &[Region],
+    slots: &Slots,
+) -> Result<Tables, OutOfMemory>
+    requires { AreCounted p.now list.now }
+    ensures { IfOk result (λ t. plan_of t ≡ plan_for p.now list.now slots.now) }
+{
+    let variables = find_variables(alloc, p, list, slots)?;
+    let table = table_of(alloc, p, list, wants(p, list), variables.as_slice())?;
+    Ok(Tables {
+        regions: list.len() as u32,
+        slots: variables,
+        table,
+    })
+}
 
 /// Whether the ids of what the tables name fit in a word.
 fn are_few(tables: &Tables) -> bool
@@ -33,10 +65,32 @@ fn are_few(tables: &Tables) -> bool
     tables.slots.len() <= 0x0100_0000 && tables.table.len() <= 0x0100_0000
 }
 
+/// The module that declares what the tables have.
+#[tactic(auto, using(crate::proofs::Counts::small))]
+fn write_by(
+    alloc: Global,
+    p: &Program,
+    list: &[Region],
+    tables: &Tables,
+    bindings: &[Binding],
+    version: Version,
+) -> Result<Module, OutOfMemory>
+    requires counted { AreCounted p.now list.now }
+    requires few { AreFew tables.now }
+    ensures { IfOk result (λ m. m ≡ module_of p.now list.now (map pair_of bindings.now) version (plan_of tables.now)) }
+{
+    let entries = Entries::of_blocks(alloc, p.blocks.as_slice())?;
+    let s = Scene {
+        program: p,
+        entries: &entries,
+        tables,
+    };
+    write(alloc, &s, list, bindings, version)
+}
+
 /// The module of a program over regions that need not be those of its branch graph, with slots and bindings that need not be its own.
 ///
-/// A module that would declare more than 2^24 variables, or as many types and constants, is refused as want of memory.
-#[tactic(auto, using(crate::proofs::Counts::small))]
+/// A module that would declare more than 2^24 variables, or as many types and constants, is refused as want of memory; that of a sound program over its own regions and slots never is, so `lower` does not ask.
 pub fn write_program(
     alloc: Global,
     p: &Program,
@@ -48,26 +102,16 @@ pub fn write_program(
     requires { AreCounted p.now list.now }
     ensures { IfOk result (λ m. m ≡ module_of p.now list.now (map pair_of bindings.now) version (plan_for p.now list.now slots.now)) }
 {
-    let variables = find_variables(alloc, p, list, slots)?;
-    let table = table_of(alloc, p, list, wants(p, list), variables.as_slice())?;
-    let tables = Tables {
-        regions: list.len() as u32,
-        slots: variables,
-        table,
-    };
+    let tables = find_tables(alloc, p, list, slots)?;
     if !are_few(&tables) {
         return Err(OutOfMemory);
     }
-    let entries = Entries::of_blocks(alloc, p.blocks.as_slice())?;
-    let s = Scene {
-        program: p,
-        entries: &entries,
-        tables: &tables,
-    };
-    write(alloc, &s, list, bindings, version)
+    write_by(alloc, p, list, &tables, bindings, version)
 }
 
-/// The module of a program over its regions, with the slots of its registers and the bindings of its resources, in a version. It does the same as the program, in every launch and by every schedule.
+/// The module of a program over its regions, with the slots of its registers and the bindings of its resources, in a version.
+///
+/// It does the same as the program, in every launch and by every schedule. Each of its instructions has the operands that its opcode takes. Its bound is at most 4,194,303, and it has fewer than 2^24 words. It declares of itself, of its buffers and of its groupshared arrays what these have to have, and has a site for each block that is reached. It has the accesses, atomics and barriers of these blocks, and no others.
 #[tactic(auto, using(crate::proofs::Counts::counted))]
 pub fn lower(
     alloc: Global,
@@ -83,14 +127,22 @@ pub fn lower(
     requires bindings { AreApart p.now (map pair_of bindings.now) }
     ensures module { IfOk result (λ m. m ≡ module_of p.now regions.now.list (map pair_of bindings.now) version (plan_for p.now regions.now.list slots.now)) }
     ensures same { IfOk result (λ m. Same p.now (map pair_of bindings.now) m) }
+    ensures formed { IfOk result (λ m. IsFormed m) }
+    ensures small { IfOk result (λ m. IsSmall m) }
+    ensures form { IfOk result (λ m. HasForm p.now regions.now.list version m) }
+    ensures buffers { IfOk result (λ m. HasBuffers p.now (map pair_of bindings.now) m) }
+    ensures sites { IfOk result (λ m. HasSites p.now m) }
+    ensures acts { IfOk result (λ m. HasActs p.now m) }
 {
     modules_are_same();
-    write_program(
-        alloc,
-        p,
-        regions.list.as_slice(),
-        slots,
-        bindings.as_slice(),
-        version,
-    )
+    modules_are_formed();
+    modules_are_small();
+    plans_are_chosen();
+    module_has_form();
+    module_has_buffers();
+    module_has_sites();
+    module_has_acts();
+    let list = regions.list.as_slice();
+    let tables = find_tables(alloc, p, list, slots)?;
+    write_by(alloc, p, list, &tables, bindings.as_slice(), version)
 }

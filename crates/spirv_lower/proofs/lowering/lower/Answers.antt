@@ -1,29 +1,39 @@
-use Rattle.std.proofs.Common.{◌≡◌, List, map, sym, ap, subst, ◌∙◌}
-use Rattle.std.proofs.lemmas.Result.{IfOk-weaker}
-use Rattle.dxil_form.specs.declared.region.Region.{Region}
-use Rattle.resource_map.specs.declared.bindings.Binding.{Binding}
+use Rattle.std.proofs.Common.{◌≡◌, map, refl, sym, ap, subst, ◌∙◌}
 use Rattle.resource_map.specs.Pairs.{pair_of}
-use Rattle.spv_form.specs.declared.module.Module.{Module}
+use Rattle.spv_form.specs.Formed.{IsFormed}
 use Rattle.spirv_meaning.specs.Same.{Same}
-use Rattle.spirv_code.specs.Frame.{module_of}
 use Rattle.chosen_plan.specs.Chosen.{plan_for}
+use Rattle.module_sizes.specs.Sizes.{IsSmall}
+use Rattle.module_form.specs.Form.{HasForm}
+use Rattle.buffer_form.specs.Buffers.{HasBuffers}
+use Rattle.site_form.specs.Sites.{HasSites}
+use Rattle.act_form.specs.Acts.{HasActs}
 use Rattle.spirv_lower.specs.Counted.{AreCounted}
 use Rattle.spirv_lower.proofs.Counts.{counted}
+use Rattle.spirv_lower.proofs.Written.{made, holds_of, tables_few}
 use Rattle.spirv_lower.proofs.lowering.lower.Goals as goal
 
-pub write_program-requires : goal.write_program-requires
-write_program-requires c =
-    subst (AreCounted c.args.p.now) (sym c.as_slice.ensures) (counted c.args.p.now c.args.regions.now.list c.requires.sound c.requires.wired)
+pub find_tables-requires : goal.find_tables-requires
+find_tables-requires c =
+    subst (AreCounted c.args.p.now) (sym c.as_slice-list.ensures) (counted c.args.p.now c.args.regions.now.list c.requires.sound c.requires.wired)
+
+pub write_by-requires-clause-counted : goal.write_by-requires-clause-counted
+write_by-requires-clause-counted c =
+    subst (AreCounted c.args.p.now) (sym c.as_slice-list.ensures) (counted c.args.p.now c.args.regions.now.list c.requires.sound c.requires.wired)
+
+pub write_by-requires-clause-few : goal.write_by-requires-clause-few
+write_by-requires-clause-few c =
+    let p = c.args.p.now in
+    let slots = c.args.slots.now in
+    tables_few p slots c.args.regions.now.list c.in_ok-tables.tables c.requires.sound c.requires.wired c.requires.slots (c.in_ok-tables.ensures ∙ ap (λ rs. plan_for p rs slots) c.as_slice-list.ensures)
 
 pub returns-clause-module : goal.returns-clause-module
 returns-clause-module c =
     let p = c.args.p.now in
-    let list = c.args.regions.now.list in
     let slots = c.args.slots.now in
     let v = c.args.version in
-    let made = λ (xs : List Region) (bs : List Binding). module_of p xs (map pair_of bs) v (plan_for p xs slots) in
-    let same = ap (λ xs. made xs c.as_slice-2.result.now) c.as_slice.ensures ∙ ap (made list) c.as_slice-2.ensures in
-    IfOk-weaker c.write_program.result (λ (m : Module). m ≡ made c.as_slice.result.now c.as_slice-2.result.now) (λ (m : Module). m ≡ made list c.args.bindings.now) (λ m e. e ∙ same) c.write_program.ensures
+    let all = made p slots v c.args.regions.now.list c.args.bindings.now in
+    holds_of c.write_by.result p slots v _ _ _ _ _ (λ m. m ≡ all) c.write_by.ensures c.in_ok-tables.ensures c.as_slice-list.ensures c.as_slice.ensures refl
 
 pub returns-clause-same : goal.returns-clause-same
 returns-clause-same c =
@@ -32,6 +42,67 @@ returns-clause-same c =
     let slots = c.args.slots.now in
     let at = map pair_of c.args.bindings.now in
     let v = c.args.version in
-    let made = λ (xs : List Region) (bs : List Binding). module_of p xs (map pair_of bs) v (plan_for p xs slots) in
-    let same = ap (λ xs. made xs c.as_slice-2.result.now) c.as_slice.ensures ∙ ap (made list) c.as_slice-2.ensures in
-    IfOk-weaker c.write_program.result (λ (m : Module). m ≡ made c.as_slice.result.now c.as_slice-2.result.now) (Same p at) (λ m e. subst (Same p at) (sym (e ∙ same)) (c.modules_are_same.ensures p list slots at v c.requires.sound c.requires.wired c.requires.slots c.requires.bindings)) c.write_program.ensures
+    let law = c.modules_are_same.ensures p list slots at v c.requires.sound c.requires.wired c.requires.slots c.requires.bindings in
+    holds_of c.write_by.result p slots v _ _ _ _ _ (Same p at) c.write_by.ensures c.in_ok-tables.ensures c.as_slice-list.ensures c.as_slice.ensures law
+
+pub returns-clause-formed : goal.returns-clause-formed
+returns-clause-formed c =
+    let p = c.args.p.now in
+    let list = c.args.regions.now.list in
+    let slots = c.args.slots.now in
+    let at = map pair_of c.args.bindings.now in
+    let v = c.args.version in
+    let law = c.modules_are_formed.ensures p list slots at v c.requires.sound c.requires.wired c.requires.slots in
+    holds_of c.write_by.result p slots v _ _ _ _ _ IsFormed c.write_by.ensures c.in_ok-tables.ensures c.as_slice-list.ensures c.as_slice.ensures law
+
+pub returns-clause-small : goal.returns-clause-small
+returns-clause-small c =
+    let p = c.args.p.now in
+    let list = c.args.regions.now.list in
+    let slots = c.args.slots.now in
+    let at = map pair_of c.args.bindings.now in
+    let v = c.args.version in
+    let law = c.modules_are_small.ensures p list at v slots c.requires.sound c.requires.wired c.requires.slots in
+    holds_of c.write_by.result p slots v _ _ _ _ _ IsSmall c.write_by.ensures c.in_ok-tables.ensures c.as_slice-list.ensures c.as_slice.ensures law
+
+pub returns-clause-form : goal.returns-clause-form
+returns-clause-form c =
+    let p = c.args.p.now in
+    let list = c.args.regions.now.list in
+    let slots = c.args.slots.now in
+    let at = map pair_of c.args.bindings.now in
+    let v = c.args.version in
+    let plan = c.plans_are_chosen.ensures p list slots c.requires.sound c.requires.wired c.requires.slots in
+    let law = c.module_has_form.ensures p list at v _ c.requires.wired plan.serves plan.table in
+    holds_of c.write_by.result p slots v _ _ _ _ _ (HasForm p list v) c.write_by.ensures c.in_ok-tables.ensures c.as_slice-list.ensures c.as_slice.ensures law
+
+pub returns-clause-buffers : goal.returns-clause-buffers
+returns-clause-buffers c =
+    let p = c.args.p.now in
+    let list = c.args.regions.now.list in
+    let slots = c.args.slots.now in
+    let at = map pair_of c.args.bindings.now in
+    let v = c.args.version in
+    let plan = c.plans_are_chosen.ensures p list slots c.requires.sound c.requires.wired c.requires.slots in
+    let law = c.module_has_buffers.ensures p list at v _ c.requires.sound c.requires.wired plan.serves plan.table c.requires.bindings in
+    holds_of c.write_by.result p slots v _ _ _ _ _ (HasBuffers p at) c.write_by.ensures c.in_ok-tables.ensures c.as_slice-list.ensures c.as_slice.ensures law
+
+pub returns-clause-sites : goal.returns-clause-sites
+returns-clause-sites c =
+    let p = c.args.p.now in
+    let list = c.args.regions.now.list in
+    let slots = c.args.slots.now in
+    let at = map pair_of c.args.bindings.now in
+    let v = c.args.version in
+    let law = c.module_has_sites.ensures p list slots at v c.requires.sound c.requires.wired c.requires.slots c.requires.bindings in
+    holds_of c.write_by.result p slots v _ _ _ _ _ (HasSites p) c.write_by.ensures c.in_ok-tables.ensures c.as_slice-list.ensures c.as_slice.ensures law
+
+pub returns-clause-acts : goal.returns-clause-acts
+returns-clause-acts c =
+    let p = c.args.p.now in
+    let list = c.args.regions.now.list in
+    let slots = c.args.slots.now in
+    let at = map pair_of c.args.bindings.now in
+    let v = c.args.version in
+    let law = c.module_has_acts.ensures p list slots at v c.requires.sound c.requires.wired c.requires.slots c.requires.bindings in
+    holds_of c.write_by.result p slots v _ _ _ _ _ (HasActs p) c.write_by.ensures c.in_ok-tables.ensures c.as_slice-list.ensures c.as_slice.ensures law
