@@ -1,16 +1,24 @@
 -- A command has one answer for each content of the file that it reads.
-use Rattle.std.proofs.Common.{◌≡◌, ◌∙◌, ℕ, List, Option, Some, sym, ap, arith, subst}
+use Rattle.std.proofs.Common.{◌≡◌, ◌∙◌, ℕ, List, Option, Some, refl, sym, ap, arith, subst}
 use Rattle.dx_outside.specs.Outside.{Store}
 use Rattle.dx_file.proofs.Answering.{refusal_unique, content_sound}
 use Rattle.spirv_file.proofs.Refusals.{refusal_unique as word_refusal_unique, accepted_sound}
+use Rattle.spv_form.specs.declared.module.Version.{Version}
+use Rattle.dx_translate.specs.Verdicts.{Verdict}
 use Rattle.dx_run.specs.Commands.{Command, translate, show, check, unknown, source}
 use Rattle.dx_run.specs.Answers.{Answer, answer_to, refusal_answer, lines_answer, word_refusal_answer, IsTranslated, IsListed, by_lines, by_refusal, IsChecked, by_words, by_word_refusal, IsOfFile, too_long, of_bytes, IsAnswer}
 use Rattle.dx_run.specs.Runs.{Read, Tells}
-use Rattle.dx_translate.proofs.Unique.{verdict_unique}
+use Rattle.dx_translate.proofs.Unique.{Agree, both_written, both_stopped, verdicts_agree}
 use Rattle.dx_run.proofs.Shown.{shown_unique}
 
-translated_unique : (to bytes : List ℕ) (a b : Answer) → IsTranslated to bytes a → IsTranslated to bytes b → a ≡ b
-translated_unique to bytes a b x y = x.answer_is ∙ ap (answer_to to) (verdict_unique bytes x.verdict y.verdict x.is_verdict y.is_verdict) ∙ sym y.answer_is
+agreed_status : (to : List ℕ) (v w : Verdict) → Agree v w → (answer_to to v).status ≡ (answer_to to w).status
+agreed_status to v w (both_written words others) = refl
+agreed_status to v w (both_stopped r) = refl
+
+-- all words of a module are an answer of one status
+translated_status : (version : Version) (to bytes : List ℕ) (a b : Answer) → IsTranslated version to bytes a → IsTranslated version to bytes b → a.status ≡ b.status
+translated_status version to bytes a b x y =
+    ap (λ w. w.status) x.answer_is ∙ agreed_status to x.verdict y.verdict (verdicts_agree version bytes x.verdict y.verdict x.is_verdict y.is_verdict) ∙ sym (ap (λ w. w.status) y.answer_is)
 
 listed_unique : (bytes : List ℕ) (a b : Answer) → IsListed bytes a → IsListed bytes b → a ≡ b
 listed_unique bytes a b (by_lines t s e) (by_lines u r f) = e ∙ ap lines_answer (shown_unique bytes t u s r) ∙ sym f
@@ -24,24 +32,24 @@ checked_unique bytes a b (by_words s e) (by_word_refusal r w x f) = absurd (acce
 checked_unique bytes a b (by_word_refusal r w x e) (by_words s f) = absurd (accepted_sound bytes r w s x)
 checked_unique bytes a b (by_word_refusal r w x e) (by_word_refusal q v y f) = let u = word_refusal_unique bytes r q w v x y in e ∙ ap (λ z. word_refusal_answer z w) u.0 ∙ ap (word_refusal_answer q) u.1 ∙ sym f
 
-of_file_unique : (Answers : Answer → Type 0) → ((a b : Answer) → Answers a → Answers b → a ≡ b) → (bytes : List ℕ) (a b : Answer) → IsOfFile Answers bytes a → IsOfFile Answers bytes b → a ≡ b
-of_file_unique Answers one bytes a b (too_long l e) (too_long m f) = e ∙ sym f
-of_file_unique Answers one bytes a b (too_long l e) (of_bytes m y) = absurd (omega arith)
-of_file_unique Answers one bytes a b (of_bytes m x) (too_long l f) = absurd (omega arith)
-of_file_unique Answers one bytes a b (of_bytes m x) (of_bytes n y) = one a b x y
+of_file_status : (Answers : Answer → Type 0) → ((a b : Answer) → Answers a → Answers b → a.status ≡ b.status) → (bytes : List ℕ) (a b : Answer) → IsOfFile Answers bytes a → IsOfFile Answers bytes b → a.status ≡ b.status
+of_file_status Answers one bytes a b (too_long l e) (too_long m f) = ap (λ w. w.status) (e ∙ sym f)
+of_file_status Answers one bytes a b (too_long l e) (of_bytes m y) = absurd (omega arith)
+of_file_status Answers one bytes a b (of_bytes m x) (too_long l f) = absurd (omega arith)
+of_file_status Answers one bytes a b (of_bytes m x) (of_bytes n y) = one a b x y
 
 same_read : (files : Option Store) (from bytes told : List ℕ) → Read (Some from) files bytes → Tells (Some from) files told → bytes ≡ told
 same_read files from bytes told read tells = let has : tells.0 from ≡ Some bytes = read.told tells.0 tells.1 in cc
 
 pub status_unique : (command : Command) (files : Option Store) (bytes told : List ℕ) (a b : Answer) → Read (source command) files bytes → Tells (source command) files told
     → IsAnswer command bytes a → IsAnswer command told b → b.status ≡ a.status
-status_unique (translate from to) files bytes told a b read tells right other =
+status_unique (translate version from to) files bytes told a b read tells right other =
     let same = same_read files from bytes told read tells in
-    ap (λ w. w.status) (of_file_unique (IsTranslated to told) (translated_unique to told) told b a other (subst (λ (w : List ℕ). IsOfFile (IsTranslated to w) w a) same right))
+    of_file_status (IsTranslated version to told) (translated_status version to told) told b a other (subst (λ (w : List ℕ). IsOfFile (IsTranslated version to w) w a) same right)
 status_unique (show from) files bytes told a b read tells right other =
     let same = same_read files from bytes told read tells in
-    ap (λ w. w.status) (of_file_unique (IsListed told) (listed_unique told) told b a other (subst (λ (w : List ℕ). IsOfFile (IsListed w) w a) same right))
+    of_file_status (IsListed told) (λ x y l m. ap (λ w. w.status) (listed_unique told x y l m)) told b a other (subst (λ (w : List ℕ). IsOfFile (IsListed w) w a) same right)
 status_unique (check from) files bytes told a b read tells right other =
     let same = same_read files from bytes told read tells in
-    ap (λ w. w.status) (of_file_unique (IsChecked told) (checked_unique told) told b a other (subst (λ (w : List ℕ). IsOfFile (IsChecked w) w a) same right))
+    of_file_status (IsChecked told) (λ x y l m. ap (λ w. w.status) (checked_unique told x y l m)) told b a other (subst (λ (w : List ℕ). IsOfFile (IsChecked w) w a) same right)
 status_unique unknown files bytes told a b read tells right other = ap (λ w. w.status) (other ∙ sym right)

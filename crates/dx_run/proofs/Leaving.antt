@@ -20,6 +20,7 @@ use Rattle.spv_form.specs.declared.fault.WordRule.{WordRule}
 use Rattle.spirv_words.specs.FileWords.{words_of}
 use Rattle.spirv_words.proofs.FileWordLaws.{length-words_of}
 use Rattle.spirv_file.specs.Checking.{IsAccepted, IsFirstRefusal as IsFirstWordRefusal}
+use Rattle.spv_form.specs.declared.module.Version.{Version}
 use Rattle.dx_run.specs.Commands.{Command, translate, show, check, unknown, source, target}
 use Rattle.dx_translate.specs.Verdicts.{Verdict, written, stopped, IsVerdict, TranslateAnswer}
 use Rattle.dx_run.specs.Answers.{Answer, answer_to, refusal_answer, IsListed, by_lines, by_refusal, IsChecked, by_words, by_word_refusal, word_rule_name, refused_word_line, checked_line, too_long, of_bytes, IsAnswer, rule_name, limit_name, refused_line, limit_line, translated_line, usage_line}
@@ -36,8 +37,8 @@ of_verdict to (written words) = tt
 of_verdict to (stopped r) = of_refusal r
 
 pub of_answer : (command : Command) (bytes : List ℕ) (answer : Answer) → IsAnswer command bytes answer → IsOfAnswer answer.status
-of_answer (translate from to) bytes answer (too_long l e) = rw e tt
-of_answer (translate from to) bytes answer (of_bytes l t) = rw t.answer_is (of_verdict to t.verdict)
+of_answer (translate version from to) bytes answer (too_long l e) = rw e tt
+of_answer (translate version from to) bytes answer (of_bytes l t) = rw t.answer_is (of_verdict to t.verdict)
 of_answer (show from) bytes answer (too_long l e) = rw e tt
 of_answer (show from) bytes answer (of_bytes l (by_lines text s e)) = rw e tt
 of_answer (show from) bytes answer (of_bytes l (by_refusal r x e)) = rw e (of_refusal r)
@@ -64,8 +65,8 @@ not_some answer w nothing has = absurd (cc)
 
 -- What is written is the target's, and only at Done.
 pub writes_done : (command : Command) (bytes : List ℕ) (answer : Answer) (w : List ℕ × List ℕ) → IsAnswer command bytes answer → answer.writes ≡ Some w → answer.status ≡ Done
-writes_done (translate from to) bytes answer w (too_long l e) has = absurd (not_some answer w (rw e refl) has)
-writes_done (translate from to) bytes answer w (of_bytes l t) has = rw t.answer_is (by_verdict t.verdict (rw t.answer_is at has)) where
+writes_done (translate version from to) bytes answer w (too_long l e) has = absurd (not_some answer w (rw e refl) has)
+writes_done (translate version from to) bytes answer w (of_bytes l t) has = rw t.answer_is (by_verdict t.verdict (rw t.answer_is at has)) where
   by_verdict : (v : Verdict) → (answer_to to v).writes ≡ Some w → (answer_to to v).status ≡ Done
   by_verdict (written words) has = refl
   by_verdict (stopped r) has = absurd (not_some (refusal_answer r) w (refusal_writes r) has)
@@ -128,11 +129,11 @@ some_long None name holds = let some = long_list (2 ^ 26 + 1) in (some.0, record
 some_long (Some store) name holds = let h = holds.told store refl in (h.0, record { told = λ other e. let f : store ≡ other = cc in rw (← f) h.1 }, h.2)
 
 -- the outputs
-pub made_success : (r : Result Output AllocError) (bytes words : List ℕ) → IsVerdict bytes (written words)
+pub made_success : (version : Version) (r : Result Output AllocError) (bytes words : List ℕ) → IsVerdict version bytes (written words)
     → IfOk r (λ output. output.status ≡ Done) → IfOk r (λ output. output.bytes ≡ Some (bytes_of_words words)) → IfOk r (λ output. output.text ≡ translated_line (length words))
-    → IfOk r (λ output. IsOutput bytes output)
-made_success (Err e) bytes words v s b t = tt
-made_success (Ok output) bytes words v s b t = record { translated = λ to. record { verdict = written words; is_verdict = v; answer_is = rw (s, b, t) refl } }
+    → IfOk r (λ output. IsOutput version bytes output)
+made_success version (Err e) bytes words v s b t = tt
+made_success version (Ok output) bytes words v s b t = record { translated = λ to. record { verdict = written words; is_verdict = v; answer_is = rw (s, b, t) refl } }
 
 pub made_refusal : (r : Result Output AllocError) (rule : Rule) (bit : ℕ)
     → IfOk r (λ output. output.status ≡ Refused) → IfOk r (λ output. output.bytes ≡ None) → IfOk r (λ output. output.text ≡ refused_line (rule_name rule) bit)
@@ -146,11 +147,11 @@ pub made_limit : (r : Result Output AllocError) (which : Which) (bit : ℕ)
 made_limit (Err e) which bit s b t = tt
 made_limit (Ok output) which bit s b t = record { answers = λ to. rw (s, b, t) refl }
 
-pub translate_failed : (r : Result Output AllocError) (bytes : List ℕ) (f : Fault) → TranslateAnswer (Err f) bytes → IfOk r (λ output. IsFaultOutput f output) → IfOk r (λ output. IsOutput bytes output)
-translate_failed (Err e) bytes f v o = tt
-translate_failed (Ok output) bytes (fault.Refused rule bit) v o = record { translated = λ to. record { verdict = stopped (refused rule bit); is_verdict = v; answer_is = o.answers to } }
-translate_failed (Ok output) bytes (fault.Limit which bit) v o = record { translated = λ to. record { verdict = stopped (limited which bit); is_verdict = v; answer_is = o.answers to } }
-translate_failed (Ok output) bytes fault.OutOfMemory v o = absurd o
+pub translate_failed : (version : Version) (r : Result Output AllocError) (bytes : List ℕ) (f : Fault) → TranslateAnswer version (Err f) bytes → IfOk r (λ output. IsFaultOutput f output) → IfOk r (λ output. IsOutput version bytes output)
+translate_failed version (Err e) bytes f v o = tt
+translate_failed version (Ok output) bytes (fault.Refused rule bit) v o = record { translated = λ to. record { verdict = stopped (refused rule bit); is_verdict = v; answer_is = o.answers to } }
+translate_failed version (Ok output) bytes (fault.Limit which bit) v o = record { translated = λ to. record { verdict = stopped (limited which bit); is_verdict = v; answer_is = o.answers to } }
+translate_failed version (Ok output) bytes fault.OutOfMemory v o = absurd o
 
 pub show_failed : (r : Result Output AllocError) (bytes : List ℕ) (f : Fault) → FaultAnswer f bytes → IfOk r (λ output. IsFaultOutput f output) → IfOk r (λ output. IsListing bytes output)
 show_failed (Err e) bytes f v o = tt

@@ -3,7 +3,7 @@ use Rattle.std.specs.Prelude.{◌≡◌, ◌≤◌, ◌<◌, ◌^◌, ◌++◌, 
 use Rattle.std.specs.Fmt.{decimal}
 use Rattle.dx_base.specs.WordBytes.{bytes_of_words}
 use Rattle.dx_base.specs.declared.fault.Rule.{Rule}
-use Rattle.dx_base.specs.declared.fault.Rule.TheVariants.{C, B, Y, M, N, P, NotYet}
+use Rattle.dx_base.specs.declared.fault.Rule.TheVariants.{C, B, Y, M, N, P}
 use Rattle.dx_base.specs.declared.fault.Which.{Which}
 use Rattle.dx_base.specs.declared.fault.Which.TheVariants.{File, Records, Fields, Blocks, Instructions, Cases, PhiEntries, Resources}
 use Rattle.dx_run.specs.declared.status.Status.{Status}
@@ -14,6 +14,7 @@ use Rattle.spv_form.specs.declared.fault.WordRule.{WordRule}
 use Rattle.spv_form.specs.declared.fault.WordRule.TheVariants.{W, V, S}
 use Rattle.spirv_words.specs.FileWords.{words_of}
 use Rattle.spirv_file.specs.Checking.{IsAccepted, IsFirstRefusal as IsFirstWordRefusal}
+use Rattle.spv_form.specs.declared.module.Version.{Version}
 use Rattle.dx_run.specs.Commands.{Command, translate, show, check, unknown}
 use Rattle.dx_translate.specs.Verdicts.{Verdict, written, stopped, IsVerdict}
 
@@ -30,7 +31,6 @@ rule_name (Y n) = codes "Y" ++ decimal n
 rule_name (M n) = codes "M" ++ decimal n
 rule_name (N n) = codes "N" ++ decimal n
 rule_name (P n) = codes "P" ++ decimal n
-rule_name NotYet = codes "NotYet"
 
 abbrev pub word_rule_name : WordRule → List ℕ
 word_rule_name (W n) = codes "W" ++ decimal n
@@ -49,7 +49,7 @@ limit_name Resources = codes "resources"
 
 -- the line for words of no known form; 10 is the line feed
 abbrev pub usage_line : List ℕ
-usage_line = codes "usage: translate IN OUT, show IN, check IN, sample N OUT" ++ 10 ∷ []
+usage_line = codes "usage: translate IN OUT, translate-13 IN OUT, show IN, check IN, sample N OUT" ++ 10 ∷ []
 
 -- the line for a limit
 abbrev pub limit_line : List ℕ → ℕ → List ℕ
@@ -76,7 +76,7 @@ abbrev pub refusal_answer : Refusal → Answer
 refusal_answer (refused rule bit) = record { status = Refused; writes = None; text = refused_line (rule_name rule) bit }
 refusal_answer (limited which bit) = record { status = Limit; writes = None; text = limit_line (limit_name which) bit }
 
--- the answer of `translate IN OUT` to a verdict on IN, where OUT has the given name
+-- the answer of a translation to a verdict on IN, where OUT has the given name
 abbrev pub answer_to : List ℕ → Verdict → Answer
 answer_to to (written words) = record { status = Done; writes = Some (to, bytes_of_words words); text = translated_line (length words) }
 answer_to to (stopped refusal) = refusal_answer refusal
@@ -92,10 +92,10 @@ checked_answer count = record { status = Done; writes = None; text = checked_lin
 abbrev pub word_refusal_answer : WordRule → ℕ → Answer
 word_refusal_answer rule word = record { status = Refused; writes = None; text = refused_word_line (word_rule_name rule) word }
 
--- What `translate IN OUT` answers where IN has these bytes.
-pub record IsTranslated (to bytes : List ℕ) (answer : Answer) : Type 0 where
+-- What a translation to this version answers where IN has these bytes.
+pub record IsTranslated (version : Version) (to bytes : List ℕ) (answer : Answer) : Type 0 where
   pub verdict : Verdict
-  pub is_verdict : IsVerdict bytes verdict
+  pub is_verdict : IsVerdict version bytes verdict
   pub answer_is : answer ≡ answer_to to verdict
 
 -- What `show IN` answers where IN has these bytes: the lines of its content, or the first refusal of the layers C and B.
@@ -115,7 +115,7 @@ pub data IsOfFile (Answers : Answer → Type 0) (bytes : List ℕ) (answer : Ans
 
 -- The answer of a command where IN, if the command has one, has these bytes.
 abbrev pub IsAnswer : Command → List ℕ → Answer → Type 0
-IsAnswer (translate from to) bytes answer = IsOfFile (IsTranslated to bytes) bytes answer
+IsAnswer (translate version from to) bytes answer = IsOfFile (IsTranslated version to bytes) bytes answer
 IsAnswer (show from) bytes answer = IsOfFile (IsListed bytes) bytes answer
 IsAnswer (check from) bytes answer = IsOfFile (IsChecked bytes) bytes answer
 IsAnswer unknown bytes answer = answer ≡ record { status = Usage; writes = None; text = usage_line }

@@ -5,6 +5,7 @@ use Rattle.dx_base.specs.declared.fault.Fault.{Fault}
 use Rattle.dx_base.specs.declared.fault.Fault.TheVariants as fault
 use Rattle.dx_file.specs.Layers.{Refusal, refused, limited}
 use Rattle.dx_outside.specs.Outside.{FilesSeen, SinkSeen, Rose, SaidPart, with_more}
+use Rattle.spv_form.specs.declared.module.Version.{Version}
 use Rattle.dx_run.specs.declared.output.Output.{Output}
 use Rattle.dx_run.specs.declared.status.Status.{Status}
 use Rattle.dx_run.specs.declared.status.Status.TheVariants.{Done, Refused, Usage, ReadFault, WriteFault, Limit, OutOfMemory, SayFault}
@@ -16,9 +17,9 @@ use Rattle.dx_run.specs.Runs.{Read, Leaves}
 abbrev pub answer_of : List ℕ → Output → Answer
 answer_of to output = record { status = output.status; writes = option_map (λ bytes. (to, bytes)) output.bytes; text = output.text }
 
--- The output is the answer of `translate` to a file of these bytes.
-pub record IsOutput (bytes : List ℕ) (output : Output) : Type 0 where
-  pub translated : (to : List ℕ) → IsTranslated to bytes (answer_of to output)
+-- The output is the answer of a translation to this version to a file of these bytes.
+pub record IsOutput (version : Version) (bytes : List ℕ) (output : Output) : Type 0 where
+  pub translated : (to : List ℕ) → IsTranslated version to bytes (answer_of to output)
 
 -- The output is the answer of `show` to a file of these bytes.
 pub record IsListing (bytes : List ℕ) (output : Output) : Type 0 where

@@ -8,7 +8,7 @@ use dx_base::{Bytes, Fault, List, Rule, Which, Words, bytes_of};
 use dx_show::show;
 use dx_translate::translate;
 use spirv_file::check_file;
-use spv_form::{CheckFault, WordRule};
+use spv_form::{CheckFault, Version, WordRule};
 use std::alloc::{AllocError, Global};
 
 /// All that a command has made before it writes and says.
@@ -44,7 +44,6 @@ fn named_rule(alloc: Global, rule: Rule) -> Result<String, AllocError>
         Rule::M(n) => format!(in alloc; "M{n}"),
         Rule::N(n) => format!(in alloc; "N{n}"),
         Rule::P(n) => format!(in alloc; "P{n}"),
-        Rule::NotYet => format!(in alloc; "NotYet"),
     }
 }
 
@@ -168,12 +167,12 @@ fn fault_output(alloc: Global, fault: Fault) -> Result<Output, AllocError>
     }
 }
 
-/// All that `translate` writes and says for a file of these bytes, at most 2^26.
-pub fn output_for(alloc: Global, bytes: &[u8]) -> Result<Output, AllocError>
+/// All that a translation to this version writes and says for a file of these bytes, at most 2^26.
+pub fn output_for(alloc: Global, bytes: &[u8], version: Version) -> Result<Output, AllocError>
     requires { length bytes.now ≤ 2 ^ 26 }
-    ensures { IfOk result (λ output. IsOutput bytes.now output) }
+    ensures { IfOk result (λ output. IsOutput version bytes.now output) }
 {
-    match translate(alloc, bytes) {
+    match translate(alloc, bytes, version) {
         Ok(words) => success(alloc, &words),
         Err(fault) => fault_output(alloc, fault),
     }

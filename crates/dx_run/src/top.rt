@@ -8,9 +8,11 @@ use crate::command_line::{CommandLine, parse_words};
 use crate::output::{Output, listing_for, output_for, report_for};
 use crate::status::Status;
 use dx_outside::{Files, Outage, Sink, Whole, read_whole, say};
+use spv_form::Version;
 use std::alloc::Global;
 
-const USAGE: &[u8] = b"usage: translate IN OUT, show IN, check IN, sample N OUT\n";
+const USAGE: &[u8] =
+    b"usage: translate IN OUT, translate-13 IN OUT, show IN, check IN, sample N OUT\n";
 
 const TOO_LONG: &[u8] = b"limit file bit 0\n";
 
@@ -42,20 +44,21 @@ fn finish<F: Files, S: Sink>(output: &Output, to: &str, files: &mut F, out: &mut
     }
 }
 
-/// The command `translate IN OUT`.
+/// The command `translate IN OUT` or `translate-13 IN OUT`.
 fn translate_file<F: Files, S: Sink>(
     alloc: Global,
+    version: Version,
     from: &str,
     to: &str,
     files: &mut F,
     out: &mut S,
 ) -> Status
-    ensures leaves { Leaves (translate_command from.now to.now) (F.seen files.old) (S.seen out.old) (F.seen files.new) (S.seen out.new) result }
+    ensures leaves { Leaves (translate_command version from.now to.now) (F.seen files.old) (S.seen out.old) (F.seen files.new) (S.seen out.new) result }
     ensures file_counts { FilesNeverFell (F.seen files.old) (F.seen files.new) }
     ensures sink_counts { SinkNeverFell (S.seen out.old) (S.seen out.new) }
 {
     match read_whole(alloc, files, from) {
-        Whole::Read(bytes) => match output_for(alloc, bytes.as_slice()) {
+        Whole::Read(bytes) => match output_for(alloc, bytes.as_slice(), version) {
             Ok(output) => finish(&output, to, files, out),
             Err(_) => Status::OutOfMemory,
         },
@@ -107,7 +110,9 @@ fn perform<F: Files, S: Sink>(alloc: Global, words: &[String], files: &mut F, ou
     ensures empty { words.now ≡ [] → result ≡ Status.OutOfMemory → Rose (S.seen out.old).lacks (S.seen out.new).lacks }
 {
     match parse_words(words) {
-        CommandLine::Translate { from, to } => translate_file(alloc, from, to, files, out),
+        CommandLine::Translate { version, from, to } => {
+            translate_file(alloc, version, from, to, files, out)
+        }
         CommandLine::Show { from } => show_file(alloc, from, files, out),
         CommandLine::Check { from } => check_words(alloc, from, files, out),
         CommandLine::Unknown => conclude(Status::Usage, USAGE, out),

@@ -1,2 +1,1 @@
-pub mod ModuleWords
 pub mod Verdicts

@@ -4,8 +4,9 @@ ghost use Rattle.std.specs.Prelude.{◌≤◌};
 
 use crate::shader::{CONSTANTS, GLOBALS, METADATA, SYMBOLS, TYPES};
 use crate::writer::{Bits, content, file};
-use dx_base::{Fault, Rule, Which};
+use dx_base::{Fault, Which};
 use dx_translate::translate;
+use spv_form::Version;
 use std::alloc::{AllocError, Global};
 use std::test::Fail;
 
@@ -102,22 +103,18 @@ fn container_of(alloc: Global, count: u64) -> Result<Vec<u8>, AllocError>
 
 #[test]
 fn the_limit_of_resources_is_told_at_the_call_that_passes_it(rt: HostRuntime) -> Result<(), Fail> {
-    let met = Fault::Refused {
-        rule: Rule::NotYet,
-        bit: 185_750,
-    };
     let passed = Fault::Limit {
         which: Which::Resources,
         bit: 331_382,
     };
-    for (count, wanted) in [(1024, met), (1025, passed)] {
+    for (count, wanted) in [(1024, None), (1025, Some(passed))] {
         let bytes = container_of(rt.alloc(), count)?;
         if bytes.len() > 100_000 {
             return Err(Fail::from("too long"));
         }
         assert_eq!(rt;
-            translate(rt.alloc(), bytes.as_slice()).err(),
-            Some(wanted),
+            translate(rt.alloc(), bytes.as_slice(), Version::V16).err(),
+            wanted,
             "{count}"
         );
     }

@@ -15,7 +15,7 @@ use dxil_form::{
 use dxil_profile::profile;
 use entry_read::entry_is_read;
 use llvm_shader::{Shader, read_shader};
-use std::alloc::Global;
+use std::alloc::{AllocError, Global};
 use std::test::Fail;
 
 /// The types: void, void (), i32, i1, i8, a handle, the parts of a load, the functions of the five operations, and an array of 64 i32.
@@ -426,7 +426,8 @@ fn program_of(alloc: Global, bytes: &[u8]) -> Result<Program, Fail>
     }
 }
 
-fn loop_program(alloc: Global) -> Result<Program, Fail> {
+/// The container of the shader of the loop.
+pub fn loop_file(alloc: Global) -> Result<Vec<u8>, AllocError> {
     let tables = Tables {
         types: &TYPES,
         globals: &GLOBALS,
@@ -435,7 +436,11 @@ fn loop_program(alloc: Global) -> Result<Program, Fail> {
         symbols: &SYMBOLS,
         body: &BODY,
     };
-    let bytes = container_of(alloc, &tables, &[])?;
+    container_of(alloc, &tables, &[])
+}
+
+fn loop_program(alloc: Global) -> Result<Program, Fail> {
+    let bytes = loop_file(alloc)?;
     if bytes.len() > 4096 {
         return Err(Fail::from("too long"));
     }

@@ -7,7 +7,8 @@ use std::alloc::Global;
 use std::process::Abort;
 use std::test::Fail;
 
-const USAGE: &[u8] = b"usage: translate IN OUT, show IN, check IN, sample N OUT\n";
+const USAGE: &[u8] =
+    b"usage: translate IN OUT, translate-13 IN OUT, show IN, check IN, sample N OUT\n";
 
 const TRANSLATED: &[u8] = b"translated 38 words\n";
 
@@ -442,10 +443,10 @@ fn missing_steady_file_is_empty(rt: HostRuntime) -> Result<(), Fail> {
     Ok(())
 }
 
-/// A sink that takes no memory and never fails: a line of at most 64 bytes.
+/// A sink that takes no memory and never fails: a line of at most 96 bytes.
 #[derive(Drop)]
 struct LineSink {
-    line: [u8; 64],
+    line: [u8; 96],
     length: usize,
 }
 
@@ -466,7 +467,7 @@ impl Sink for LineSink {
 #[test]
 fn no_words_take_no_memory(rt: HostRuntime) {
     let mut out = LineSink {
-        line: [0; 64],
+        line: [0; 96],
         length: 0,
     };
     let mut files = SteadyFiles::new(rt.alloc());

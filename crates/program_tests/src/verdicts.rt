@@ -6,6 +6,7 @@ use crate::plain::{
 };
 use dx_base::{Fault, Rule, Which};
 use dx_translate::translate;
+use spv_form::Version;
 use std::alloc::Global;
 use std::test::Fail;
 
@@ -46,7 +47,7 @@ fn refuses_at_the_first_place_that_departs(rt: HostRuntime) -> Result<(), Fail> 
     ];
     for (bytes, rule, bit) in files {
         assert_eq!(rt;
-            translate(rt.alloc(), bytes).err(),
+            translate(rt.alloc(), bytes, Version::V16).err(),
             refused(rule, bit),
             "{bit}"
         );
@@ -83,7 +84,7 @@ fn asks_each_byte_of_the_container_in_order(rt: HostRuntime) -> Result<(), Fail>
         if place < bytes.len() {
             bytes[place] ^= 1;
         }
-        let fault = translate(rt.alloc(), &bytes).err();
+        let fault = translate(rt.alloc(), &bytes, Version::V16).err();
         let wanted = wanted.map(|(rule, bit)| Fault::Refused { rule, bit });
         assert_eq!(rt; fault, wanted, "byte {place}");
     }
@@ -111,12 +112,18 @@ fn a_changed_bit_is_told_at_its_item(rt: HostRuntime) -> Result<(), Fail> {
             bytes[place / 8] ^= 1 << (place % 8);
         }
         let wanted = wanted.map(|(rule, bit)| Fault::Refused { rule, bit });
-        assert_eq!(rt; translate(rt.alloc(), &bytes).err(), wanted, "{name}");
+        assert_eq!(rt;
+            translate(rt.alloc(), &bytes, Version::V16).err(),
+            wanted,
+            "{name}"
+        );
     }
     // the node of the thread counts names 1, 4 and 1 in place of 8, 4 and 1
     let mut bytes = CONTAINER;
     bytes[188] ^= 1 << 2;
-    let words = translate(rt.alloc(), &bytes).ok().ok_or("refused")?;
+    let words = translate(rt.alloc(), &bytes, Version::V16)
+        .ok()
+        .ok_or("refused")?;
     let all = words_of([1, 4, 1]);
     assert_eq!(rt; words.as_slice(), all.as_slice());
     Ok(())
@@ -161,7 +168,7 @@ fn thread_counts_up_to_their_last_values(rt: HostRuntime) -> Result<(), Fail> {
     for (fields, wanted) in &COUNTS {
         let bytes = shader_of_threads(rt.alloc(), *fields)?;
         assert!(rt; bytes.len() <= 400);
-        let answer = translate(rt.alloc(), bytes.as_slice());
+        let answer = translate(rt.alloc(), bytes.as_slice(), Version::V16);
         match *wanted {
             Ok(threads) => {
                 let all = words_of(threads);
@@ -185,7 +192,7 @@ fn refusal_of(alloc: Global, changes: &[Change]) -> Result<Option<Fault>, Fail> 
     if bytes.len() > 400 {
         return Err(Fail::from("too long"));
     }
-    match translate(alloc, bytes.as_slice()) {
+    match translate(alloc, bytes.as_slice(), Version::V16) {
         Ok(words) if words.as_slice() == MODULE.as_slice() => Ok(None),
         Ok(_) => Err(Fail::from("other words")),
         Err(fault) => Ok(Some(fault)),
@@ -249,7 +256,7 @@ fn types_and_values_have_these_answers(rt: HostRuntime) -> Result<(), Fail> {
 }
 
 /// Modules with a changed body, whose records stand at 2080 and 2102, and the next one at 2118.
-const BODIES: [Case<'static>; 13] = [
+const BODIES: [Case<'static>; 12] = [
     (&[(12, 0, &[(1, &[0])])], Some((Rule::M(7), 2080))),
     // a BR to block 1, of 1 block, and to block 0
     (&[(12, 1, &[(11, &[1])])], Some((Rule::M(8), 2102))),
@@ -261,26 +268,22 @@ const BODIES: [Case<'static>; 13] = [
     ),
     (
         &[(12, 0, &[(1, &[2])]), (12, 1, &[(10, &[]), (10, &[])])],
-        Some((Rule::NotYet, 2118)),
+        None,
     ),
-    // a RET of a value, an UNREACHABLE, and a sum before the return
+    // a RET of a value, and an UNREACHABLE
     (&[(12, 1, &[(10, &[1])])], Some((Rule::P(6), 2102))),
-    (&[(12, 1, &[(15, &[])])], Some((Rule::NotYet, 2102))),
-    (
-        &[(12, 1, &[(2, &[1, 1, 0]), (10, &[])])],
-        Some((Rule::NotYet, 2102)),
-    ),
+    (&[(12, 1, &[(15, &[])])], None),
     // a debug place is no instruction
     (&[(12, 1, &[(35, &[1, 1, 0, 0]), (10, &[])])], None),
     // as many blocks as the limit allows, told at the body's end
     (&[(12, 0, &[(1, &[8192])])], Some((Rule::M(10), 2130))),
-    // the thread counts and the model are asked before the form
+    // the thread counts and the model are asked before the profile
     (
-        &[(11, 4, &[(4, &[0])]), (12, 1, &[(15, &[])])],
+        &[(11, 4, &[(4, &[0])]), (12, 1, &[(10, &[1])])],
         Some((Rule::N(8), 1490)),
     ),
     (
-        &[(15, 0, &[(1, &[118, 115])]), (12, 1, &[(15, &[])])],
+        &[(15, 0, &[(1, &[118, 115])]), (12, 1, &[(10, &[1])])],
         Some((Rule::N(5), 1782)),
     ),
     (&[], None),
@@ -369,7 +372,7 @@ fn metadata_have_these_answers(rt: HostRuntime) -> Result<(), Fail> {
     Ok(())
 }
 
-/// The module of two functions whose first body is an UNREACHABLE, and of which the entry is the function with this number.
+/// The module of two functions whose first body returns a value, and of which the entry is the function with this number.
 fn two_functions(alloc: Global, entry: u64) -> Result<Vec<u8>, Fail> {
     // the values of the constants are 2 to 6
     let changes: [Change; 7] = [
@@ -381,19 +384,19 @@ fn two_functions(alloc: Global, entry: u64) -> Result<Vec<u8>, Fail> {
         (15, 7, &[(2, &[2, 5])]),
         (15, 8, &[(2, &[2, 6])]),
     ];
-    let bytes = shader_behind(alloc, &[&[(1, &[1]), (15, &[])]], &changes)?;
+    let bytes = shader_behind(alloc, &[&[(1, &[1]), (10, &[1])]], &changes)?;
     Ok(bytes)
 }
 
 #[test]
 fn body_of_the_entry_function_counts(rt: HostRuntime) -> Result<(), Fail> {
-    // the UNREACHABLE stands at 2134
+    // that return stands at 2134
     for (entry, wanted) in [(0, Some(2134)), (1, None)] {
         let bytes = two_functions(rt.alloc(), entry)?;
         assert!(rt; bytes.len() <= 400);
-        let fault = translate(rt.alloc(), bytes.as_slice()).err();
+        let fault = translate(rt.alloc(), bytes.as_slice(), Version::V16).err();
         let wanted = wanted.map(|bit| Fault::Refused {
-            rule: Rule::NotYet,
+            rule: Rule::P(6),
             bit,
         });
         assert_eq!(rt; fault, wanted, "entry {entry}");
@@ -405,7 +408,7 @@ fn body_of_the_entry_function_counts(rt: HostRuntime) -> Result<(), Fail> {
 fn skipped_blocks_and_blocks_0_are_passed_over(rt: HostRuntime) -> Result<(), Fail> {
     let bytes = shader_among_others(rt.alloc())?;
     assert!(rt; bytes.len() <= 400);
-    let words = translate(rt.alloc(), bytes.as_slice())
+    let words = translate(rt.alloc(), bytes.as_slice(), Version::V16)
         .ok()
         .ok_or("refused")?;
     assert_eq!(rt; words.as_slice(), MODULE.as_slice());
@@ -414,7 +417,7 @@ fn skipped_blocks_and_blocks_0_are_passed_over(rt: HostRuntime) -> Result<(), Fa
 
 #[test]
 fn forms_of_compilers_are_read(rt: HostRuntime) -> Result<(), Fail> {
-    let words = translate(rt.alloc(), VARIED.as_slice())
+    let words = translate(rt.alloc(), VARIED.as_slice(), Version::V16)
         .ok()
         .ok_or("refused")?;
     assert_eq!(rt; words.as_slice(), MODULE.as_slice());

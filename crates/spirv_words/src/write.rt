@@ -1,7 +1,7 @@
 ghost use Rattle.std.specs.Prelude.{◌≡◌, ◌+◌, ◌*◌, ◌^◌, ◌++◌, ◌<◌, length, IfOk, OnOk, slice_get, Some};
 ghost use Rattle.spv_form.specs.Formed.{IsFormed};
 ghost use Rattle.spv_form.specs.WordRules.{IsModule};
-ghost use Rattle.spirv_words.specs.Written.{inst_words, AreWords};
+ghost use Rattle.spirv_words.specs.Written.{inst_words, module_words, AreWords};
 
 use crate::header;
 use dx_base::{List, OutOfMemory, Words};
@@ -14,6 +14,7 @@ use std::alloc::Global;
 pub fn write_module(alloc: Global, m: &Module) -> Result<Words, OutOfMemory>
     requires { IsFormed m.now }
     ensures module { IfOk result (λ words. IsModule words m.now) }
+    ensures exact { IfOk result (λ words. words ≡ module_words m.now) }
     ensures generator { IfOk result (λ words. slice_get words 2 ≡ Some 0) }
     ensures words { IfOk result AreWords }
 {
