@@ -6,7 +6,7 @@
     python3 bench/bodies.py entries N OUT    32 phis of N / 32 entries each, N at most 262,080: one for each of the blocks before them
     python3 bench/bodies.py rows N OUT       a body that names N rows of buffers, N at most 1,024, each by a handle and a load
 
-`translate` reads each through the profile, and refuses it as NotYet at the first instruction.
+`translate` translates each.
 """
 
 import sys

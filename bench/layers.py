@@ -7,7 +7,7 @@
     python3 bench/layers.py phis N OUT        a body of N blocks behind the first, N at most 8,000; each has three phis of 11 entries, up to 262,144 in all
     python3 bench/layers.py records N OUT     N more constants of the body
 
-`translate` reads all layers of each and takes it, but for the phis, which it refuses as NotYet at the first instruction.
+`translate` reads all layers of each and translates it.
 """
 
 import sys
