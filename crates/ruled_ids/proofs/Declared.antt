@@ -63,7 +63,7 @@ unfolding result_of shape_of
 words_is p ids id r true = refl
 words_is p ids id r false = refl
 
-declaration_is : (p : Program) (ids : Global → ℕ) (id : ℕ) (g : Global) → result_of (declaration p ids id g) ≡ Some id
+pub declaration_is : (p : Program) (ids : Global → ℕ) (id : ℕ) (g : Global) → result_of (declaration p ids id g) ≡ Some id
 unfolding result_of shape_of
 declaration_is p ids id (Plain sort.Int) = refl
 declaration_is p ids id (Plain sort.Bool) = refl

@@ -1,0 +1,10 @@
+pub mod Leads
+pub mod Inside
+pub mod Lines
+pub mod Exits
+pub mod Rows
+pub mod Narrow
+pub mod Frame
+pub mod Phases
+pub mod Variables
+pub mod Whole

@@ -1,0 +1,4 @@
+pub mod Defined
+pub mod Types
+pub mod Interfaces
+pub mod Whole
