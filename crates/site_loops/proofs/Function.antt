@@ -1,22 +1,24 @@
 -- The site of each leaf in the function of a module.
-use Rattle.std.proofs.Common.{◌≡◌, inl, inr, ℕ, ◌+◌, ◌<◌, ◌≤◌, Bool, true, false, ne_eqb, List, [], ◌∷◌, ◌++◌, length, Some, refl, sym, ap, ◌∙◌, subst, arith}
-use Rattle.std.specs.Prelude.{◌^◌, slice_get, Contains, ◌==◌, if◌then◌else◌}
+use Rattle.std.proofs.Common.{◌≡◌, inl, inr, ℕ, ◌+◌, ◌<◌, Bool, true, false, List, [], ◌∷◌, ◌++◌, length, Some, sym, ap, ◌∙◌, subst, arith}
+use Rattle.std.specs.Prelude.{◌^◌, slice_get, map, if◌then◌else◌}
 use Rattle.dxil_form.specs.declared.program.Program.{Program}
 use Rattle.dxil_form.specs.declared.region.Region.{Region}
 use Rattle.dxil_form.specs.declared.region.Region.TheVariants as region
 use Rattle.dxil_form.specs.Wired.{Wired}
 use Rattle.spv_form.specs.declared.module.Inst.{Inst}
 use Rattle.spv_form.specs.declared.module.Version.{Version}
-use Rattle.flow_blocks.specs.Blocks.{labeled_blocks}
+use Rattle.flow_rules.specs.Blocks.{BasicBlock}
+use Rattle.flow_rules.specs.declared.block.Merge.{Merge}
+use Rattle.flow_blocks.specs.Blocks.{Labeled, labeled_blocks}
 use Rattle.flow_blocks.specs.Numbered.{numbered, blocks_of}
 use Rattle.spirv_meaning.specs.Bindings.{Bindings}
-use Rattle.spirv_code.specs.Plans.{Plan, Context, inst, context_of, slots_from, global_id, site_label}
+use Rattle.spirv_code.specs.Plans.{Plan, Context, inst, context_of, slots_from, global_id, site_label, first_label}
 use Rattle.spirv_code.specs.Trees.{Tree, label_at, begins_plainly, place_of, root_of}
 use Rattle.spirv_code.specs.Rows.{onwards, row_code}
 use Rattle.spirv_code.specs.Frame.{module_of}
-use Rattle.spirv_code.specs.Plans.{first_label}
-use Rattle.written_rows.specs.Code.{label_inst, branch_inst, AreInner, labels}
+use Rattle.written_rows.specs.Code.{label_inst, branch_inst, AreInner, labels, RowCode}
 use Rattle.written_rows.specs.Laws.{EachOnce}
+use Rattle.row_laws.specs.Rows.{Looping}
 use Rattle.written_rows.proofs.Function as fun
 use Rattle.module_structure.proofs.Function as made
 use Rattle.module_structure.proofs.Function.{slots_low}
@@ -27,22 +29,11 @@ use Rattle.site_loops.proofs.Scan.{after, inner_after}
 use Rattle.site_loops.proofs.Closed.{once_back, once_labels, once_rest}
 use Rattle.site_loops.proofs.Spots.{Under, Spot, Marked, spot_back, spot_label}
 use Rattle.site_loops.proofs.Sited.{spot_tree}
-use Rattle.site_loops.proofs.Headed.{headed}
+use Rattle.site_loops.proofs.Headed.{Headed, inner_headed}
 use Rattle.site_loops.proofs.Headers.{AreHeaders, tree_headed}
-use Rattle.site_loops.proofs.Places.{label_loops}
+use Rattle.site_loops.proofs.Entries.{Enters}
+use Rattle.site_loops.proofs.Places as places
 use Rattle.site_loops.proofs.Named.{is_site}
-
--- instructions without labels and merge instructions before others
-inner_headed : (l : ℕ) (xs ys : List Inst) → AreInner xs → headed l (xs ++ ys) ≡ headed l ys
-inner_headed l [] ys h = refl
-inner_headed l (x ∷ xs) ys h =
-    if_not (x.opcode == 248) (low_not x.opcode 248 h.0 (omega arith)) _ _ ∙ if_not (x.opcode == 246) (low_not x.opcode 246 h.0 (omega arith)) _ _ ∙ inner_headed l xs ys h.1
-  where
-    low_not : (n m : ℕ) → n < 246 → 246 ≤ m → (n == m) ≡ false
-    low_not n m low high = ne_eqb n m (λ e. absurd (omega (arith, e, low, high)))
-
-    if_not : {A : Type 0} (b : Bool) → b ≡ false → (x y : A) → (if b then x else y) ≡ y
-    if_not b e x y = ap (λ (c : Bool). if c then x else y) e
 
 module _ (p : Program) (list : List Region) (at : Bindings) (v : Version) (plan : Plan) (w : Wired p list) (regions : plan.regions ≡ length list) where
   abbrev c : Context
@@ -93,39 +84,89 @@ module _ (p : Program) (list : List Region) (at : Bindings) (v : Version) (plan 
           let whole : Spot (branch_inst (label_at tree) ∷ label_inst (label_at tree) ∷ row) (site_label r) (length us) = record { place = spot.place; label_is = spot.label_is; loops_are = spot.loops_are } in
           inr (spot_back slots (branch_inst (label_at tree) ∷ label_inst (label_at tree) ∷ row) (site_label r) (length us) closed whole)
 
-  headers : AreHeaders (headed label code)
-  headers = by_test (begins_plainly tree)
-    where
-      by_test : (t : Bool) → AreHeaders (headed (first t) (slots ++ behind t))
-      by_test true = subst AreHeaders (sym (inner_headed (label_at tree) slots (row_code c place tree) low)) (tree_headed c tree place)
-      by_test false =
-          subst AreHeaders (sym (inner_headed (first_label (place_of tree)) slots (onwards (label_at tree) ++ row_code c (place + 2) tree) low)) (tree_headed c tree (place + 2))
-
-  no_header : (r : ℕ) → Contains (headed label code) (site_label r) → ⊥
-  no_header r h =
-      let is = headers (site_label r) h in
-      omega (arith, is.1)
-
   abbrev front : List Inst
   front = made.front p list at v plan w regions
 
-  -- the site of a leaf and the loops it stands in
-  pub record LeafSite (b n : ℕ) : Type 0 where
-    pub number : ℕ
-    pub site : IsSite (module_of p list at v plan) b number
-    pub loops : InLoops (blocks_of (module_of p list at v plan).insts) number n
+  begins : AreInner front
+  begins = made.front_low p list at v plan w regions
 
-  pub leaf_site : ((r b : ℕ) → slice_get list r ≡ Some (region.Leaf b) → b < 2 ^ 32) → (r b : ℕ) (us : List ℕ) → slice_get list r ≡ Some (region.Leaf b) → Under tree r b us → LeafSite b (length us)
-  leaf_site few r b us leaf under =
-      let row = made.row p list at v plan w regions (made.deepest p list at v plan w regions) (made.itself p list at v plan w regions) in
-      let begins = made.front_low p list at v plan w regions in
-      let deep = made.deepest p list at v plan w regions in
-      let end : List Inst = inst 56 [] ∷ [] in
-      let l = label_loops deep front code end label begins row (omega arith, tt) once (site_label r) (length us) (marked r b us under) (no_header r) in
-      let insts = made.insts_are p list at v plan w regions in
-      let ls = ap labeled_blocks insts ∙ fun.blocks_is deep front code end label begins row (omega arith, tt) once in
-      record {
-        number = l.number_is;
-        site = is_site p list at v plan w regions few r b l.number_is l.labeled leaf (ap (λ ds. slice_get ds l.number_is) ls ∙ l.there) l.label_is;
-        loops = subst (λ bs. InLoops bs l.number_is (length us)) (sym (ap numbered ls)) l.loops;
-      }
+  abbrev deep : ℕ
+  deep = made.deepest p list at v plan w regions
+
+  row : RowCode deep false label code
+  row = made.row p list at v plan w regions deep (made.itself p list at v plan w regions)
+
+  abbrev end : List Inst
+  end = inst 56 [] ∷ []
+
+  end_low : AreInner end
+  end_low = (omega arith, tt)
+
+  pub number : ℕ → ℕ
+  number = places.number deep front code end label begins row end_low once
+
+  -- the blocks of the module are those of its function
+  labeled_are : labeled_blocks (module_of p list at v plan).insts ≡ places.all_labeled deep front code end label begins row end_low once
+  labeled_are =
+      ap labeled_blocks (made.insts_are p list at v plan w regions) ∙ fun.blocks_is deep front code end label begins row end_low once
+
+  blocks_are : blocks_of (module_of p list at v plan).insts ≡ places.all_blocks deep front code end label begins row end_low once
+  blocks_are = ap numbered labeled_are
+
+  module _ (few : (r b : ℕ) → slice_get list r ≡ Some (region.Leaf b) → b < 2 ^ 32) (headers : AreHeaders (Enters list) tree) where
+    headed : Headed (Enters list) label code
+    headed = by_test (begins_plainly tree)
+      where
+        by_test : (t : Bool) → Headed (Enters list) (first t) (slots ++ behind t)
+        by_test true =
+            inner_headed (Enters list) (label_at tree) slots (row_code c place tree) low (tree_headed (Enters list) c tree headers place)
+        by_test false =
+            inner_headed (Enters list) (first_label (place_of tree)) slots (onwards (label_at tree) ++ row_code c (place + 2) tree) low (tt, tree_headed (Enters list) c tree headers (place + 2))
+
+    -- the site of a leaf and the loops it stands in
+    pub record LeafSite (r b n : ℕ) : Type 0 where
+      pub place : ℕ
+      pub number_is : number (site_label r) ≡ place
+      pub labeled : Labeled
+      pub there : slice_get (labeled_blocks (module_of p list at v plan).insts) place ≡ Some labeled
+      pub label_is : labeled.label ≡ site_label r
+      pub site : IsSite (module_of p list at v plan) b place
+      pub loops : InLoops (blocks_of (module_of p list at v plan).insts) place n
+
+    pub leaf_site : (r b : ℕ) (us : List ℕ) → slice_get list r ≡ Some (region.Leaf b) → Under tree r b us → LeafSite r b (length us)
+    unfolding number
+    leaf_site r b us leaf under =
+        let l = places.label_loops deep front code end label begins row end_low once (Enters list) headed (site_label r) (length us) (marked r b us under) no_header in
+        let there = ap (λ ds. slice_get ds l.number_is) labeled_are ∙ l.there in
+        record {
+          place = l.number_is;
+          number_is = l.numbers;
+          labeled = l.labeled;
+          there = there;
+          label_is = l.label_is;
+          site = is_site p list at v plan w regions few r b l.number_is l.labeled leaf there l.label_is;
+          loops = subst (λ bs. InLoops bs l.number_is (length us)) (sym blocks_are) l.loops;
+        }
+      where
+        no_header : (ts : List ℕ) → Enters list (site_label r) ts → ⊥
+        no_header ts e =
+            let is = e.header_is in
+            omega (arith, is)
+
+    -- a loop's header is that of a region, and branches to the leaf of the region's head
+    pub record HeaderSite (h : ℕ) (b : BasicBlock) : Type 0 where
+      pub labeled : Labeled
+      pub there : slice_get (labeled_blocks (module_of p list at v plan).insts) h ≡ Some labeled
+      pub targets_are : b.targets ≡ map number labeled.block.targets
+      pub enters : Enters list labeled.label labeled.block.targets
+
+    pub header_site : (h : ℕ) (g : Merge) (l : Looping (blocks_of (module_of p list at v plan).insts) h g) → HeaderSite h l.0.0
+    unfolding number
+    header_site h g l =
+        let k = places.header_of deep front code end label begins row end_low once (Enters list) headed h g ((l.0.0, (ap (λ bs. slice_get bs h) (sym blocks_are) ∙ l.0.1.0, l.0.1.1)), l.1) in
+        record {
+          labeled = k.labeled;
+          there = ap (λ ds. slice_get ds h) labeled_are ∙ k.there;
+          targets_are = ap (λ (x : BasicBlock). x.targets) k.block_is;
+          enters = k.goes;
+        }

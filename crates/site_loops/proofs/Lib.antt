@@ -12,6 +12,7 @@ pub mod Places
 pub mod Words
 pub mod Above
 pub mod Hung
+pub mod Entries
 pub mod Named
 pub mod Function
 pub mod Whole

@@ -16,7 +16,7 @@ use Rattle.flow_blocks.specs.Numbered.{number_of, numbered_block}
 use Rattle.spirv_meaning.specs.Names.{label_of, begun_at}
 use Rattle.spirv_meaning.specs.Bindings.{Bindings}
 use Rattle.spirv_meaning.proofs.Sites.{sites_begin}
-use Rattle.spirv_code.specs.Plans.{Plan, site_label, result, context_of}
+use Rattle.spirv_code.specs.Plans.{Plan, label, site_label, result, context_of}
 use Rattle.spirv_code.specs.Trees.{root_of}
 use Rattle.spirv_code.specs.Frame.{module_of}
 use Rattle.frame_facts.specs.Inner.{Owns}
@@ -50,23 +50,24 @@ module _ (p : Program) (list : List Region) (at : Bindings) (v : Version) (plan 
   owned : Owns Mine (root_of list)
   owned = subst (λ n. Owns (λ r. r < n) (root_of list)) (sym regions) (root_owned p list w)
 
-  label_is : (j r : ℕ) (x : Inst) → r < length list → slice_get m.insts j ≡ Some x → (x.opcode == 248) ≡ true → operand x 0 ≡ site_label r → x ≡ label_inst (site_label r)
-  label_is j r x low e is id = by_kind (labelled p list at v plan Mine owned j x e)
+  -- the instruction that is a region's label
+  pub label_is : (j r kind : ℕ) (x : Inst) → r < length list → kind ≤ 7 → slice_get m.insts j ≡ Some x → (x.opcode == 248) ≡ true → operand x 0 ≡ label r kind → x ≡ label_inst (label r kind)
+  label_is j r kind x low high e is id = by_kind (labelled p list at v plan Mine owned j x e)
     where
-      told : label_of x ≡ Some (site_label r)
-      told = label_told x (site_label r) is id (omega arith)
+      told : label_of x ≡ Some (label r kind)
+      told = label_told x (label r kind) is id (omega arith)
 
-      by_kind : Labelled (context_of p plan) Mine j x → x ≡ label_inst (site_label r)
-      by_kind (unlabelled none) = absurd (let never : None ≡ Some (site_label r) = sym none ∙ told in cc)
+      by_kind : Labelled (context_of p plan) Mine j x → x ≡ label_inst (label r kind)
+      by_kind (unlabelled none) = absurd (let never : None ≡ Some (label r kind) = sym none ∙ told in cc)
       by_kind (at_own a) =
-          let same : site_label r ≡ result (context_of p plan) j = inj (sym told ∙ a) in
-          absurd (omega (arith, same, low, regions))
+          let same : label r kind ≡ result (context_of p plan) j = inj (sym told ∙ a) in
+          absurd (omega (arith, same, low, high, regions))
       by_kind (in_region i h a) =
-          let same : i ≡ site_label r = inj (sym (ap label_of a) ∙ told) in
+          let same : i ≡ label r kind = inj (sym (ap label_of a) ∙ told) in
           a ∙ ap label_inst same
 
   pub is_site : ((r b : ℕ) → slice_get list r ≡ Some (region.Leaf b) → b < 2 ^ 32) → (r b q : ℕ) (d : Labeled) → slice_get list r ≡ Some (region.Leaf b) → slice_get (labeled_blocks m.insts) q ≡ Some d → d.label ≡ site_label r → IsSite m b q
-  is_site few r b q d leaf e label =
+  is_site few r b q d leaf e named =
       elim (located None 5 m.insts q d (ap (λ ds. slice_get ds q) (sym (blocks_are None 5 m.insts)) ∙ e)) [
         | inl none ↦ absurd none
         | inr l ↦ at_label l
@@ -75,7 +76,7 @@ module _ (p : Program) (list : List Region) (at : Bindings) (v : Version) (plan 
       at_label : Located 5 m.insts d → IsSite m b q
       at_label l =
           let low = get_below list r (region.Leaf b) leaf in
-          let is = label_is l.place r l.label low l.there l.is_label (l.id_is ∙ label) in
+          let is = label_is l.place r 0 l.label low (omega arith) l.there l.is_label (l.id_is ∙ named) in
           let begins : begun_at m l.place ≡ b ∷ [] = sites p list at v plan w regions few r b l.place leaf (l.there ∙ ap Some is) in
           record {
             place = l.place;

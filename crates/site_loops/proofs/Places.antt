@@ -1,6 +1,6 @@
 -- Which block begins at a label of a function, and how many loops hold it.
 use Rattle.std.proofs.Common.{◌≡◌, ◌⊎◌, inl, inr, ℕ, zero, suc, ◌+◌, true, false, List, [], ◌∷◌, ◌++◌, length, length-append, Option, Some, None, refl, sym, ap, ◌∙◌, subst, arith}
-use Rattle.std.specs.Prelude.{slice_get, map, Contains}
+use Rattle.std.specs.Prelude.{slice_get, map}
 use Rattle.std.specs.Option.{option_map}
 use Rattle.dxil_form.specs.Graphs.{count_below}
 use Rattle.spv_form.specs.declared.module.Inst.{Inst}
@@ -10,7 +10,7 @@ use Rattle.flow_rules.specs.declared.block.MergeKind.{MergeKind}
 use Rattle.flow_rules.specs.declared.block.MergeKind.TheVariants.{Selection, Loop}
 use Rattle.flow_blocks.specs.Blocks.{Labeled}
 use Rattle.flow_blocks.specs.Numbered.{numbered_merge, numbered_block}
-use Rattle.row_laws.specs.Rows.{is_loop}
+use Rattle.row_laws.specs.Rows.{is_loop, Looping}
 use Rattle.row_laws.proofs.Basics.{none_some, true_false, at_same}
 use Rattle.written_rows.specs.Code.{AreInner, labels, RowCode}
 use Rattle.written_rows.specs.Laws.{EachOnce}
@@ -24,7 +24,7 @@ use Rattle.site_loops.proofs.Held.{Held}
 use Rattle.site_loops.proofs.Closed.{once_rest}
 use Rattle.site_loops.proofs.Rows.{row_held}
 use Rattle.site_loops.proofs.Spots.{Marked}
-use Rattle.site_loops.proofs.Headed.{headed, IsLoopMerge, looped}
+use Rattle.site_loops.proofs.Headed.{Headed, IsLoopMerge, looped}
 
 inj : {A : Type 0} {a b : A} → Some a ≡ Some b → a ≡ b
 inj e = cc
@@ -70,7 +70,7 @@ module _ (depth : ℕ) (front code back : List Inst) (label : ℕ) (before : Are
   abbrev pub all_labeled : List Labeled
   all_labeled = fun.ls depth front code back label before row behind once
 
-  abbrev number : ℕ → ℕ
+  abbrev pub number : ℕ → ℕ
   number = fun.number depth front code back label before row behind once
 
   abbrev n : ℕ
@@ -84,21 +84,13 @@ module _ (depth : ℕ) (front code back : List Inst) (label : ℕ) (before : Are
   labeled_at i id e =
       source_at all_labeled i id (ap (λ xs. slice_get xs i) (fun.names_are depth front code back label before row behind once) ∙ e)
 
-  -- a block whose label stands before no OpLoopMerge is no loop's header
-  plain : (i id : ℕ) → slice_get (label ∷ labels code) i ≡ Some id → (Contains (headed label code) id → ⊥) → Plain all_blocks i
-  plain i id e other g l =
-      let d = labeled_at i id e in
-      let at = fun.at depth front code back label before row behind once i d.0 d.1 in
-      let merge = ap (λ (b : BasicBlock). b.merge) (at_same all_blocks i (numbered_block number d.0.block) l.0.0 at l.0.1.0) ∙ l.0.1.1 in
-      let loop = loop_of number d.0.block.merge g merge l.1 in
-      elim (split (fun.inner depth front code back label before row behind once) (fun.last depth front code back label before row behind once ∷ []) i d.0 d.1) [
-        | inl here ↦ other (subst (Contains (headed label code)) d.2 (looped [] label (Some (opened label (fun.v depth front code back label before row behind once))) (fun.w depth front code back label before row behind once) code (refl, λ m. absurd (none_loop m)) i d.0 here loop))
-        | inr end ↦ last_plain d.0 end.0 end.1 loop
-      ]
-    where
-      last_plain : (d : Labeled) (j : ℕ) → slice_get (fun.last depth front code back label before row behind once ∷ []) j ≡ Some d → IsLoopMerge d.block.merge → ⊥
-      last_plain d zero e loop = none_loop (subst (λ (x : Labeled). IsLoopMerge x.block.merge) (sym (inj e)) loop)
-      last_plain d (suc j) e loop = absurd (cc)
+  -- the label of a place has its number
+  number_at : (i id : ℕ) → slice_get (label ∷ labels code) i ≡ Some id → number id ≡ i
+  number_at zero id e =
+      ap number (sym (inj e)) ∙ (fun.here depth front code back label before row behind once).here
+  number_at (suc i) id e =
+      let is = (fun.here depth front code back label before row behind once).numbered i id e in
+      omega (arith, is)
 
   end_plain : Plain all_blocks n
   end_plain g l =
@@ -120,22 +112,62 @@ module _ (depth : ℕ) (front code back : List Inst) (label : ℕ) (before : Are
       let none = over_one all_blocks (0 + n) q (subst (Plain all_blocks) place end_plain) in
       (holds all_blocks q, λ h. (λ t. holds_told all_blocks q h t, λ s. holds_there all_blocks q h s), omega (arith, e, all, same, parts, none))
 
-  -- the block of a label at which so many loops are open
-  pub record LabelLoops (id d : ℕ) : Type 0 where
-    pub number_is : ℕ
+  -- a header of a loop, and where its block goes
+  pub record Header (G : ℕ → List ℕ → Type 0) (h : ℕ) (b : BasicBlock) : Type 0 where
     pub labeled : Labeled
-    pub there : slice_get all_labeled number_is ≡ Some labeled
-    pub label_is : labeled.label ≡ id
-    pub loops : InLoops all_blocks number_is d
+    pub there : slice_get all_labeled h ≡ Some labeled
+    pub block_is : b ≡ numbered_block number labeled.block
+    pub goes : G labeled.label labeled.block.targets
 
-  pub label_loops : (id d : ℕ) → Marked label code id d → (Contains (headed label code) id → ⊥) → LabelLoops id d
-  label_loops id d (inl m) other =
-      let here = labeled_at 0 id (ap Some m.0) in
-      let self = over_self all_blocks 0 n (plain 0 id (ap Some m.0) other) in
-      record { number_is = 0; labeled = here.0; there = here.1; label_is = here.2; loops = in_loops 0 d (omega (arith, self, m.1)) }
-  label_loops id d (inr s) other =
-      let here = labeled_at (suc s.place) id s.label_is in
-      let same : suc s.place ≡ 0 + 1 + s.place = omega arith in
-      let one = held.held s.place d s.loops_are (subst (Plain all_blocks) same (plain (suc s.place) id s.label_is other)) in
-      let at = ap (λ q. over all_blocks 0 n q) same in
-      record { number_is = suc s.place; labeled = here.0; there = here.1; label_is = here.2; loops = in_loops (suc s.place) d (omega (arith, one, at)) }
+  module _ (G : ℕ → List ℕ → Type 0) (headed : Headed G label code) where
+    pub header_of : (h : ℕ) (g : Merge) (l : Looping all_blocks h g) → Header G h l.0.0
+    header_of h g l =
+        let d = block_at all_labeled h l.0.0 l.0.1.0 in
+        let loop = loop_of number d.0.block.merge g (ap (λ (b : BasicBlock). b.merge) (sym d.2) ∙ l.0.1.1) l.1 in
+        elim (split (fun.inner depth front code back label before row behind once) (fun.last depth front code back label before row behind once ∷ []) h d.0 d.1) [
+          | inl here ↦ record {
+            labeled = d.0;
+            there = d.1;
+            block_is = d.2;
+            goes = looped G label (Some (opened label (fun.v depth front code back label before row behind once))) (fun.w depth front code back label before row behind once) code (refl, λ m. absurd (none_loop m)) headed h d.0 here loop;
+          }
+          | inr end ↦ absurd (last_plain d.0 end.0 end.1 loop)
+        ]
+      where
+        block_at : (ds : List Labeled) (i : ℕ) (b : BasicBlock) → slice_get (map (λ (d : Labeled). numbered_block number d.block) ds) i ≡ Some b → (d : Labeled) × (slice_get ds i ≡ Some d) × (b ≡ numbered_block number d.block)
+        block_at [] i b e = absurd (cc)
+        block_at (x ∷ ds) zero b e = (x, refl, sym (inj e))
+        block_at (x ∷ ds) (suc i) b e = block_at ds i b e
+
+        last_plain : (d : Labeled) (j : ℕ) → slice_get (fun.last depth front code back label before row behind once ∷ []) j ≡ Some d → IsLoopMerge d.block.merge → ⊥
+        last_plain d zero e loop = none_loop (subst (λ (x : Labeled). IsLoopMerge x.block.merge) (sym (inj e)) loop)
+        last_plain d (suc j) e loop = absurd (cc)
+
+    -- a block whose label is no header's is no loop's header
+    plain : (i id : ℕ) → slice_get (label ∷ labels code) i ≡ Some id → ((ts : List ℕ) → G id ts → ⊥) → Plain all_blocks i
+    plain i id e other g l =
+        let d = labeled_at i id e in
+        let k = header_of i g l in
+        let same : k.labeled ≡ d.0 = inj (sym k.there ∙ d.1) in
+        other k.labeled.block.targets (subst (λ z. G z k.labeled.block.targets) (ap (λ (b : Labeled). b.label) same ∙ d.2) k.goes)
+
+    -- the block of a label at which so many loops are open
+    pub record LabelLoops (id d : ℕ) : Type 0 where
+      pub number_is : ℕ
+      pub labeled : Labeled
+      pub there : slice_get all_labeled number_is ≡ Some labeled
+      pub label_is : labeled.label ≡ id
+      pub numbers : number id ≡ number_is
+      pub loops : InLoops all_blocks number_is d
+
+    pub label_loops : (id d : ℕ) → Marked label code id d → ((ts : List ℕ) → G id ts → ⊥) → LabelLoops id d
+    label_loops id d (inl m) other =
+        let here = labeled_at 0 id (ap Some m.0) in
+        let self = over_self all_blocks 0 n (plain 0 id (ap Some m.0) other) in
+        record { number_is = 0; labeled = here.0; there = here.1; label_is = here.2; numbers = number_at 0 id (ap Some m.0); loops = in_loops 0 d (omega (arith, self, m.1)) }
+    label_loops id d (inr s) other =
+        let here = labeled_at (suc s.place) id s.label_is in
+        let same : suc s.place ≡ 0 + 1 + s.place = omega arith in
+        let one = held.held s.place d s.loops_are (subst (Plain all_blocks) same (plain (suc s.place) id s.label_is other)) in
+        let at = ap (λ q. over all_blocks 0 n q) same in
+        record { number_is = suc s.place; labeled = here.0; there = here.1; label_is = here.2; numbers = number_at (suc s.place) id s.label_is; loops = in_loops (suc s.place) d (omega (arith, one, at)) }
