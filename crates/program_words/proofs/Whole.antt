@@ -15,20 +15,27 @@ use Rattle.phi_demotion.specs.Slots.{AreSlots}
 use Rattle.spirv_words.specs.Written.{module_words}
 use Rattle.spirv_code.specs.Frame.{module_of}
 use Rattle.chosen_plan.specs.Chosen.{plan_for}
+use Rattle.chosen_plan.specs.IsPlan.{PlansAreChosen}
 use Rattle.program_regions.specs.Chosen.{AreRegions}
 use Rattle.ruled_ids.specs.Laws.{ModulesDefineOnce}
+use Rattle.frame_order.specs.Laws.{ModulesKeepOrder}
+use Rattle.frame_rules.specs.Laws.{ModulesKeepFrames}
 use Rattle.module_structure.specs.Laws.{ModulesKeepStructure}
 use Rattle.module_nesting.specs.Laws.{ModulesStayShallow}
 use Rattle.module_sizes.specs.Sizes.{ModulesAreSmall}
 use Rattle.module_counts.specs.Laws.{FewSwitches, NoRingNoLoop}
 use Rattle.module_loops.specs.Laws.{LoopsAreAsManyAsHeads}
 use Rattle.site_loops.specs.Laws.{SitesStandInTheirLoops}
+use Rattle.head_sites.specs.Laws.{HeadersMeetTheirHeads}
 use Rattle.program_words.specs.Words.{KeepsRules, HasLoops, IsWordsOf}
 use Rattle.program_words.proofs.Idle.{words_idle}
 
 -- what is known of the module of every program
 pub record Laws : Type 0 where
   pub structure : ModulesKeepStructure
+  pub chosen : PlansAreChosen
+  pub ordered : ModulesKeepOrder
+  pub framed : ModulesKeepFrames
   pub once : ModulesDefineOnce
   pub small : ModulesAreSmall
   pub shallow : ModulesStayShallow
@@ -36,6 +43,7 @@ pub record Laws : Type 0 where
   pub none : NoRingNoLoop
   pub heads : LoopsAreAsManyAsHeads
   pub sites : SitesStandInTheirLoops
+  pub headers : HeadersMeetTheirHeads
 
 -- a program with its regions and slots
 module _ (laws : Laws) (p : Program) (list : List Region) (slots : Slots) (version : Version) (sound : Sound p) (regions : AreRegions p list) (are : AreSlots p slots) where
@@ -45,6 +53,8 @@ module _ (laws : Laws) (p : Program) (list : List Region) (slots : Slots) (versi
   keeps : (at : Bindings) → KeepsRules (module_at at)
   keeps at = record {
     structure = laws.structure p list at version (plan_for p list slots) regions.wired refl;
+    ordered = laws.ordered p list at version (plan_for p list slots) sound regions.wired;
+    framed = laws.framed p list at version (plan_for p list slots) regions.wired (laws.chosen p list slots sound regions.wired are).serves;
     once = laws.once p list at version (plan_for p list slots) regions.wired refl;
     small = laws.small p list at version slots sound regions.wired are;
     shallow = laws.shallow p list at version (plan_for p list slots) regions refl;
@@ -56,6 +66,7 @@ module _ (laws : Laws) (p : Program) (list : List Region) (slots : Slots) (versi
     none = λ blocks g s none. laws.none p list at version (plan_for p list slots) blocks g regions refl s.reachable s.few s.graph s.uncrossed none;
     switches = λ blocks g s. laws.switches p list at version (plan_for p list slots) blocks g regions refl s.reachable s.few s.graph s.uncrossed;
     sites = λ blocks g s b r. laws.sites p list at version (plan_for p list slots) blocks g b sound regions refl s r;
+    headers = λ blocks g s q by continue_target at_q. laws.headers p list at version (plan_for p list slots) blocks g q by continue_target sound regions refl s at_q;
   }
 
   words_for : (m : Module) → m ≡ module_at (plain_bindings p) → Same p (plain_bindings p) m → IsFormed m

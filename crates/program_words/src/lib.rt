@@ -5,8 +5,12 @@ ghost use Rattle.std.specs.Prelude.{IfOk};
 ghost use Rattle.dxil_form.specs.Sound.{Sound};
 ghost use Rattle.program_words.specs.Words.{IsWordsOf};
 
+use chosen_plan::plans_are_chosen;
 use dx_base::{OutOfMemory, Words};
 use dxil_form::Program;
+use frame_order::modules_keep_order;
+use frame_rules::modules_keep_frames;
+use head_sites::headers_meet_their_heads;
 use module_counts::modules_have_few_branches;
 use module_loops::modules_have_their_loops;
 use module_nesting::modules_stay_shallow;
@@ -28,12 +32,16 @@ pub fn words_of(alloc: Global, p: &Program, version: Version) -> Result<Words, O
     ensures { IfOk result (IsWordsOf p.now version) }
 {
     modules_keep_structure();
+    plans_are_chosen();
+    modules_keep_order();
+    modules_keep_frames();
     modules_define_once();
     modules_are_small();
     modules_stay_shallow();
     modules_have_few_branches();
     modules_have_their_loops();
     sites_stand_in_their_loops();
+    headers_meet_their_heads();
     let regions = regions_of(alloc, p)?;
     let slots = demote(alloc, p)?;
     let bindings = map_resources(alloc, p)?;
