@@ -13,7 +13,7 @@ import pathlib
 import re
 import sys
 
-DOCUMENTS = ["README.md", *(f"docs/{name}.md" for name in ("ARCHITECTURE", "RULES", "PROOFS", "DECISIONS", "FIGURES"))]
+DOCUMENTS = ["README.md", *(f"docs/{name}.md" for name in ("ARCHITECTURE", "RULES", "PROOFS", "DECISIONS", "CHANGING", "FIGURES"))]
 TABLES = ["README.md", "docs/ARCHITECTURE.md"]
 # the letters of the rules that are printed, each with its last number
 RULES = {"C": 9, "B": 8, "Y": 4, "M": 11, "N": 9, "P": 22, "W": 9, "V": 15, "S": 12}
