@@ -15,6 +15,7 @@ use Rattle.decoration_rules.specs.ReadOnly.{IsReadOnly, variable, chain}
 use Rattle.spirv_code.specs.declared.key.Sort.TheVariants as sort
 use Rattle.spirv_code.specs.declared.key.Storage.{Storage}
 use Rattle.spirv_code.specs.declared.key.Storage.TheVariants as storage
+use Rattle.spirv_code.specs.declared.key.Global.{Global}
 use Rattle.spirv_code.specs.declared.key.Global.TheVariants.{Plain, Pointer, Buffer, Shared}
 use Rattle.spirv_code.specs.Keys.{storage_class}
 use Rattle.spirv_code.specs.Plans.{Context, inst, int_id}
@@ -87,25 +88,27 @@ module _ (s : Setting) (low : ℕ) (ahead : StandsAhead s low) where
       opcode_is (target.Buffer r) id = refl
       opcode_is (target.Shared a) id = refl
 
-      other_class : (rows : Bool) → Some 4 ≡ Some (storage_class (buffer_storage rows)) → ⊥
-      other_class true same = let clash : 4 ≡ 2 = some_inj same in omega (arith, clash)
-      other_class false same = let clash : 4 ≡ 12 = some_inj same in omega (arith, clash)
+      buffer_of : Global → ℕ
+      buffer_of (Buffer r) = r
+      buffer_of _ = 0
 
-      by_variable : (t : Target) → Uses s (target_key t) → IsWritable s t → (id r : ℕ) (resource : Resource) → target_id c t ≡ id → Uses s (Buffer r) → slice_get s.program.resources r ≡ Some resource → resource.class ≡ Srv → id ≡ c.key (Buffer r) → ⊥
-      by_variable (target.Buffer q) uses can id r resource same used is class id_is =
-          let one : q ≡ r = ahead.apart q r uses used (same ∙ id_is) in
+      same_id : (t : Target) → c.key (target_key t) ≡ target_id c t
+      same_id (target.Buffer r) = refl
+      same_id (target.Shared a) = refl
+
+      by_variable : (t : Target) → IsWritable s t → (r : ℕ) (resource : Resource) → slice_get s.program.resources r ≡ Some resource → resource.class ≡ Srv → target_key t ≡ Buffer r → ⊥
+      by_variable (target.Buffer q) can r resource is class same =
+          let one : q ≡ r = ap buffer_of same in
           let there : slice_get s.program.resources r ≡ Some can.0 = ap (slice_get s.program.resources) (sym one) ∙ can.1 in
           let equal : can.0 ≡ resource = some_inj (sym there ∙ is) in
           let clash : Uav ≡ Srv = sym can.2 ∙ (ap (λ (x : Resource). x.class) equal ∙ class) in
           absurd (cc)
-      by_variable (target.Shared a) uses can id r resource same used is class id_is =
-          let declared = subst (λ n. definition insts n ≡ Some (declaration s.program c.key (c.key (Buffer r)) (Buffer r))) (sym (same ∙ id_is)) (key_is s low ahead (Buffer r) used) in
-          other_class (rowed s.program r) (ap (λ (y : Inst). slice_get y.operands 2) (some_inj (sym (key_is s low ahead (Shared a) uses) ∙ declared)))
+      by_variable (target.Shared a) can r resource is class same = absurd (cc)
 
       by_cause : (t : Target) → Uses s (target_key t) → IsWritable s t → (id : ℕ) → target_id c t ≡ id → IsReadOnly insts id → ⊥
       by_cause t uses can id same (variable v i x d opcode mark) =
           let b = ahead.marks v mark in
-          by_variable t uses can v b.r b.resource same b.uses b.is b.class b.id_is
+          by_variable t can b.r b.resource b.is b.class (b.only (target_key t) uses (same_id t ∙ same))
       by_cause t uses can id same (chain q i j x d opcode base before more) =
           let is = some_inj (sym (definition_at t uses q same) ∙ defined_by insts q i x d) in
           let clash : 59 ≡ 65 = sym (opcode_is t q) ∙ (ap (λ (y : Inst). y.opcode) is ∙ opcode) in

@@ -20,9 +20,10 @@ use Rattle.spirv_code.specs.Reads.{store_code, keep_code}
 use Rattle.spirv_code.specs.Frame.{rowed, buffer_storage, declaration, slot_sort, slot_start, slot_variable}
 use Rattle.line_runs.specs.Held.{Setting}
 use Rattle.line_runs.proofs.Tests.{some_inj}
+use Rattle.ruled_ids.proofs.Declared.{declaration_is}
 use Rattle.ruled_lines.specs.Kept.{KeepsRules, AreKept, IsValueAt, StandsAhead}
 use Rattle.ruled_lines.proofs.Values.{definition_is, value_reached, value_type_is, bare_reach}
-use Rattle.ruled_lines.proofs.Facts.{variable_is, key_is, local_reached, local_points}
+use Rattle.ruled_lines.proofs.Facts.{variable_is, local_reached, local_points}
 
 pub store_fits_as : (insts : List Inst) (v id type : ℕ) → value_type insts id ≡ Some type → points_to insts type v ≡ true → fits insts (inst 62 (v ∷ id ∷ [])) ≡ true
 unfolding fits group_of store_fits
@@ -50,7 +51,7 @@ module _ (s : Setting) (low : ℕ) (ahead : StandsAhead s low) where
   local_writable : (slot : Slot) (id : ℕ) → c.slot slot ≡ Some id → IsReadOnly insts id → ⊥
   local_writable slot id e (variable v i x d opcode mark) =
       let b = ahead.marks v mark in
-      let buffer = subst (λ n. definition insts n ≡ Some (declaration s.program c.key (c.key (Buffer b.r)) (Buffer b.r))) (sym b.id_is) (key_is s low ahead (Buffer b.r) b.uses) in
+      let buffer = definition_is insts ahead.once b.stands.0 v (declaration s.program c.key v (Buffer b.r)) b.stands.1 (declaration_is s.program c.key v (Buffer b.r)) in
       other_class (rowed s.program b.r) (ap (λ (y : Inst). slice_get y.operands 2) (some_inj (sym (local_is slot v e) ∙ buffer)))
     where
       other_class : (rows : Bool) → Some 7 ≡ Some (storage_class (buffer_storage rows)) → ⊥

@@ -63,19 +63,18 @@ IsOf p (Shared a) = a < length p.shared
 abbrev pub AreUsed : Setting → List Global → Type 0
 AreUsed s gs = (g : Global) → Contains gs g → IsOf s.program g → Uses s g
 
--- the variable of a buffer that is read only
+-- the id of the variable of a buffer that is read only, and of nothing else that is declared
 pub record IsReadBuffer (s : Setting) (id : ℕ) : Type 0 where
   pub r : ℕ
   pub resource : Resource
-  pub uses : Uses s (Buffer r)
   pub is : slice_get s.program.resources r ≡ Some resource
   pub class : resource.class ≡ Srv
-  pub id_is : id ≡ s.context.key (Buffer r)
+  pub stands : (place : ℕ) × (slice_get s.made.insts place ≡ Some (declaration s.program s.context.key id (Buffer r)))
+  pub only : (g : Global) → Uses s g → s.context.key g ≡ id → g ≡ Buffer r
 
--- Where what the code names is declared, ahead of the place `low`: a key's declaration stands before every label, with all that it names, and a variable of the function behind one. No id is defined twice, no two buffers have one variable, and only buffers that are read only are NonWritable.
+-- Where what the code names is declared, ahead of the place `low`: a key's declaration stands before every label, with all that it names, and a variable of the function behind one. No id is defined twice, and only buffers that are read only are NonWritable.
 pub record StandsAhead (s : Setting) (low : ℕ) : Type 0 where
   pub once : DefineOnce s.made.insts
-  pub apart : (q r : ℕ) → Uses s (Buffer q) → Uses s (Buffer r) → s.context.key (Buffer q) ≡ s.context.key (Buffer r) → q ≡ r
   pub marks : (id : ℕ) → (marks_of s.made.insts id).non_writable ≡ true → IsReadBuffer s id
   pub keys : (g : Global) → Uses s g → (place : ℕ) × (slice_get s.made.insts place ≡ Some (declaration s.program s.context.key (s.context.key g) g)) × (place < low) × (block_of s.made.insts place ≡ 0)
   pub closed : (g : Global) → Uses s g → AreKeys s.table (needs s.program g)

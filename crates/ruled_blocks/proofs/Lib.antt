@@ -1,0 +1,3 @@
+pub mod Phis
+pub mod Edges
+pub mod Whole
