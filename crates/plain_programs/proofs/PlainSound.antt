@@ -4,7 +4,6 @@ use Rattle.std.proofs.lemmas.Bool.{cases_eq, or_cases, eqb-true, false≢true}
 use Rattle.std.proofs.lemmas.Option.{none-some, same_Some, some_pair_parts, slice_get_within}
 use Rattle.std.specs.List.{slice_get}
 use Rattle.dxil_form.specs.declared.value.Ty.{Ty}
-use Rattle.dxil_form.specs.declared.value.Ty.TheVariants.{Int}
 use Rattle.dxil_form.specs.declared.value.Reg.{Reg}
 use Rattle.dxil_form.specs.declared.value.Operand.{Operand}
 use Rattle.dxil_form.specs.declared.value.Operand.TheVariants as operand
@@ -12,7 +11,7 @@ use Rattle.dxil_form.specs.declared.instr.Instr.{Instr}
 use Rattle.dxil_form.specs.declared.block.Block.{Block}
 use Rattle.dxil_form.specs.declared.block.Phi.{Phi}
 use Rattle.dxil_form.specs.declared.block.Term.{Term}
-use Rattle.dxil_form.specs.declared.block.Term.TheVariants.{Ret, Switch}
+use Rattle.dxil_form.specs.declared.block.Term.TheVariants.{Switch}
 use Rattle.dxil_form.specs.declared.program.Program.{Program}
 use Rattle.dxil_form.specs.declared.program.Resource.{Resource}
 use Rattle.dxil_form.specs.Branches.{branches, targets_in, has}
@@ -20,7 +19,7 @@ use Rattle.dxil_form.specs.Registers.{Typed, Spot, Sets, SetsAt, term_operands}
 use Rattle.dxil_form.specs.Registers.Spot.{At_phi, At_line}
 use Rattle.dxil_form.specs.Sound.{Sound, PhiAt, LineAt, EndAt, HasType, TermFits, LocalFits, lines_of, cases_in, cases_of, entries_of, entries_in}
 use Rattle.region_laws.proofs.Places.{front, last, cases_last}
-use Rattle.plain_programs.specs.Plain.{AreTargets, AreNumbered, IsPlainTerm, IsPlain, ArePlain}
+use Rattle.plain_programs.specs.Plain.{AreTargets, AreNumbered, IsLiteral, IsPlainTerm, IsPlain, ArePlain}
 
 no_item : {A : Type 0} (xs : List A) (n : ℕ) (x : A) → xs ≡ [] → slice_get xs n ≡ Some x → ⊥
 no_item {A} xs n x e h = let P : List A → Type 0 = λ l. slice_get l n ≡ Some x in none-some x (subst P e h)
@@ -56,8 +55,11 @@ module _ (blocks : List Block) (some : 1 ≤ length blocks) (few : length blocks
     end_type : (b k : ℕ) (term : Term) (a : Typed Operand) → EndAt (program local) b term → slice_get (term_operands term) k ≡ Some a → HasType (program local) a.item a.ty
     end_type b k term a h s =
         let P : Term → Type 0 = λ z. slice_get (term_operands z) k ≡ Some a in
-        let (x, y) = (plain b h.block h.stands).ends.reads k a (subst P (sym h.ends) s) in
-        let Q : Operand → Type 0 = λ z. HasType (program local) z a.ty in subst Q (sym x) (sym y)
+        let Q : Operand → Type 0 = λ z. HasType (program local) z a.ty in
+        elim ((plain b h.block h.stands).ends.reads k a (subst P (sym h.ends) s)) [
+          | inl (x, y) ↦ subst Q (sym x) (sym y)
+          | inr (x, y) ↦ subst Q (sym x) (sym y)
+        ]
 
     end_fits : (b : ℕ) (term : Term) → EndAt (program local) b term → TermFits term
     end_fits b term h = let P : Term → Type 0 = λ z. TermFits z in subst P h.ends (plain b h.block h.stands).ends.fits
@@ -112,9 +114,6 @@ sound_of blocks some few room plain local resources shared x y z =
 
 -- ---- the terminators
 
-pub ret_plain : (count : ℕ) → IsPlainTerm count Ret
-ret_plain count = record { goes = λ k t. absurd (false≢true t); reads = λ n a h. absurd (none-some a h); fits = tt }
-
 pub numbered_on : (ks : List ℕ) (n : ℕ) (cases : List (ℕ × ℕ)) → AreNumbered ks n cases → AreNumbered ks (n + 1) (cases ++ (n, get_or ks n 0) ∷ [])
 numbered_on ks n cases are = record {
   count = (let e = length-append cases ((n, get_or ks n 0) ∷ []) in let c = are.count in omega arith);
@@ -166,8 +165,8 @@ module _ (count : ℕ) (ks : List ℕ) (are : AreTargets count ks) (cases : List
     fits = λ j k x y h i q. sym (value_is j x h) ∙ q ∙ value_is k y i;
   }
     where
-      reads : (n : ℕ) (a : Typed Operand) → slice_get (term_operands (Switch (operand.Int 0) d cases)) n ≡ Some a → (a.item ≡ operand.Int 0) × (a.ty ≡ Int)
-      reads zero a h = (ap (λ (z : Typed Operand). z.item) (sym (same_Some _ a h)), ap (λ (z : Typed Operand). z.ty) (sym (same_Some _ a h)))
+      reads : (n : ℕ) (a : Typed Operand) → slice_get (term_operands (Switch (operand.Int 0) d cases)) n ≡ Some a → IsLiteral a
+      reads zero a h = inl (ap (λ (z : Typed Operand). z.item) (sym (same_Some _ a h)), ap (λ (z : Typed Operand). z.ty) (sym (same_Some _ a h)))
       reads (suc n) a h = absurd (none-some a h)
 
 -- ---- the blocks

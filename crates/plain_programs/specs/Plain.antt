@@ -1,6 +1,6 @@
 -- Programs of blocks without instructions.
-use Rattle.std.specs.Prelude.{◌≡◌, ℕ, ◌<◌, ◌≤◌, true, List, [], length, Some, slice_get, slice_index}
-use Rattle.dxil_form.specs.declared.value.Ty.TheVariants.{Int}
+use Rattle.std.specs.Prelude.{◌≡◌, ◌⊎◌, ℕ, ◌<◌, ◌≤◌, true, false, List, [], length, Some, slice_get, slice_index}
+use Rattle.dxil_form.specs.declared.value.Ty.TheVariants.{Int, Bool}
 use Rattle.dxil_form.specs.declared.value.Operand.{Operand}
 use Rattle.dxil_form.specs.declared.value.Operand.TheVariants as operand
 use Rattle.dxil_form.specs.declared.block.Block.{Block}
@@ -18,10 +18,15 @@ pub record AreNumbered (ks : List ℕ) (n : ℕ) (cases : List (ℕ × ℕ)) : T
   pub count : length cases ≡ n
   pub each : (i : ℕ) → i < n → slice_get cases i ≡ Some (i, slice_index ks i)
 
--- the terminator goes to blocks other than block 0, and reads no register
+-- a literal: the number 0, or the truth value false
+abbrev pub IsLiteral : Typed Operand → Type 0
+IsLiteral a =
+    ((a.item ≡ operand.Int 0) × (a.ty ≡ Int)) ⊎ ((a.item ≡ operand.Bool false) × (a.ty ≡ Bool))
+
+-- the terminator goes to blocks other than block 0, and reads literals alone
 pub record IsPlainTerm (count : ℕ) (term : Term) : Type 0 where
   pub goes : (k : ℕ) → has k (targets term) ≡ true → (1 ≤ k) × (k < count)
-  pub reads : (n : ℕ) (a : Typed Operand) → slice_get (term_operands term) n ≡ Some a → (a.item ≡ operand.Int 0) × (a.ty ≡ Int)
+  pub reads : (n : ℕ) (a : Typed Operand) → slice_get (term_operands term) n ≡ Some a → IsLiteral a
   pub fits : TermFits term
 
 pub record IsPlain (count : ℕ) (block : Block) : Type 0 where

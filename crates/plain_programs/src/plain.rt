@@ -53,17 +53,27 @@ fn numbered(alloc: Global, targets: &[u32]) -> Result<Cases, OutOfMemory>
     Ok(cases)
 }
 
-/// A terminator that may go to exactly these blocks.
+/// A terminator that may go to exactly these blocks: a return, a branch to one, a conditional branch to two, or a switch.
 fn plain_term(alloc: Global, count: u32, targets: &[u32]) -> Result<Term, OutOfMemory>
     requires targets { AreTargets count targets.now }
     requires few { length targets.now ≤ MOST_TARGETS }
     ensures plain { IfOk result (λ term. IsPlainTerm count term) }
-    ensures cases { IfOk result (λ term. cases_in term ≡ length targets.now) }
+    ensures cases { IfOk result (λ term. cases_in term ≤ length targets.now) }
 {
     if targets.is_empty() {
         return Ok(Term::Ret);
     }
     let default = targets[0];
+    if targets.len() == 1 {
+        return Ok(Term::Go(default));
+    }
+    if targets.len() == 2 {
+        return Ok(Term::If {
+            cond: Operand::Bool(false),
+            yes: default,
+            no: targets[1],
+        });
+    }
     let cases = numbered(alloc, targets)?;
     Ok(Term::Switch {
         value: Operand::Int(0),
@@ -77,7 +87,7 @@ fn plain_block(alloc: Global, count: u32, targets: &[u32]) -> Result<Block, OutO
     requires targets { AreTargets count targets.now }
     requires few { length targets.now ≤ MOST_TARGETS }
     ensures plain { IfOk result (λ block. IsPlain count block) }
-    ensures cases { IfOk result (λ block. cases_in block.term ≡ length targets.now) }
+    ensures cases { IfOk result (λ block. cases_in block.term ≤ length targets.now) }
 {
     let term = plain_term(alloc, count, targets)?;
     Ok(Block {

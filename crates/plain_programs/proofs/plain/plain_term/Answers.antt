@@ -1,10 +1,7 @@
 use Rattle.std.proofs.Common.{length, refl, sym, arith}
 use Rattle.std.proofs.lemmas.Bool.{eqb-false}
-use Rattle.plain_programs.proofs.PlainSound.{ret_plain, switch_plain}
+use Rattle.plain_programs.proofs.PlainSound.{switch_plain}
 use Rattle.plain_programs.proofs.plain.plain_term.Goals as goal
-
-pub returns-then-is_empty-clause-plain : goal.returns-then-is_empty-clause-plain
-returns-then-is_empty-clause-plain c = ret_plain c.args.count
 
 pub returns-clause-plain : goal.returns-clause-plain
 returns-clause-plain c =
