@@ -22,6 +22,8 @@ use Rattle.spirv_meaning.specs.Same.{Same}
 use Rattle.ruled_ids.specs.Laws.{DefineOnce}
 use Rattle.frame_order.specs.Laws.{KeepsOrder}
 use Rattle.frame_rules.specs.Laws.{KeepsFrame}
+use Rattle.frame_apart.specs.Laws.{KeepsTypesApart}
+use Rattle.frame_marks.specs.Laws.{KeepsMarks}
 use Rattle.module_sizes.specs.Sizes.{IsSmall}
 use Rattle.module_counts.specs.Laws.{how_many, switches_at}
 use Rattle.module_loops.specs.Heads.{IsHead, HasHeads}
@@ -56,11 +58,13 @@ idle_words version counts =
 
 -- ---- every program
 
--- Of the rules of a module: its blocks break none of S1 to S12; its instructions stand in order (V1, V2, V11, V12, V15); its types are listed ones, and its entry point lists its variables and names its function (V5, V9, V10); no id is defined twice (V3); ids are at most 4,194,303 (V13); and never more than 1,023 merge instructions wait for their merge labels (V14).
+-- Of the rules of a module: its blocks break none of S1 to S12; its instructions stand in order (V1, V2, V11, V12, V15); its types are listed ones and none is declared twice, its variables are decorated as they have to be, and its entry point lists its variables and names its function (V5, V7, V8 of variables, V9, V10); no id is defined twice (V3); ids are at most 4,194,303 (V13); and never more than 1,023 merge instructions wait for their merge labels (V14).
 pub record KeepsRules (m : Module) : Type 0 where
   pub structure : IsSound (Broken (blocks_of m.insts))
   pub ordered : KeepsOrder m.insts
   pub framed : KeepsFrame m.version m.insts
+  pub apart : KeepsTypesApart m.insts
+  pub marked : KeepsMarks m.insts
   pub once : DefineOnce m.insts
   pub small : IsSmall m
   pub shallow : (j : ℕ) → waiting (take j m.insts) ≤ 1023

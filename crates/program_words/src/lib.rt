@@ -8,6 +8,8 @@ ghost use Rattle.program_words.specs.Words.{IsWordsOf};
 use chosen_plan::plans_are_chosen;
 use dx_base::{OutOfMemory, Words};
 use dxil_form::Program;
+use frame_apart::modules_keep_types_apart;
+use frame_marks::modules_keep_marks;
 use frame_order::modules_keep_order;
 use frame_rules::modules_keep_frames;
 use head_sites::headers_meet_their_heads;
@@ -35,6 +37,8 @@ pub fn words_of(alloc: Global, p: &Program, version: Version) -> Result<Words, O
     plans_are_chosen();
     modules_keep_order();
     modules_keep_frames();
+    modules_keep_types_apart();
+    modules_keep_marks();
     modules_define_once();
     modules_are_small();
     modules_stay_shallow();
