@@ -34,11 +34,11 @@ pub coming_start : (reg : Reg) (t : Ty) → slot_start (coming reg t) ≡ zero_o
 coming_start reg ty.Int = refl
 coming_start reg ty.Bool = refl
 
-kept_sort : (reg : Reg) (t : Ty) → slot_sort (kept reg t) ≡ sort_of t
+pub kept_sort : (reg : Reg) (t : Ty) → slot_sort (kept reg t) ≡ sort_of t
 kept_sort reg ty.Int = refl
 kept_sort reg ty.Bool = refl
 
-load_shape : shape_of 61 ≡ Some (Plain true true 1 1 0)
+pub load_shape : shape_of 61 ≡ Some (Plain true true 1 1 0)
 unfolding shape_of
 load_shape = refl
 
@@ -54,7 +54,7 @@ module _ (s : Setting) (low : ℕ) (ahead : StandsAhead s low) where
   sort_used slot v =
       (ahead.closed (Pointer storage.Function (slot_sort slot)) (ahead.slots slot v.0 v.1).3.0).0
 
-  load_slot : (at id : ℕ) (slot : Slot) (t : Ty) → HasVariable s slot → slot_sort slot ≡ sort_of t → low ≤ at → KeepsRules insts at (inst 61 (type_id c t ∷ id ∷ variable c slot ∷ []))
+  pub load_slot : (at id : ℕ) (slot : Slot) (t : Ty) → HasVariable s slot → slot_sort slot ≡ sort_of t → low ≤ at → KeepsRules insts at (inst 61 (type_id c t ∷ id ∷ variable c slot ∷ []))
   load_slot at id slot t v e behind =
       subst (λ n. KeepsRules insts at (inst 61 (type_id c t ∷ id ∷ n ∷ []))) (sym (ap id_or_0 v.1)) (load_kept s low ahead at (type_id c t) id v.0 slot v.1 (ap (λ o. c.key (PlainKey o)) e) (sort_used slot v) behind)
 

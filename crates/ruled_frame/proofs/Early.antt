@@ -21,7 +21,7 @@ use Rattle.module_form.proofs.Gathered.{apart_by, is_decoration, decorations_eac
 
 -- ---- lists
 
-declaration_at : (p : Program) (ids : Global → ℕ) (n : ℕ) (table : List Global) (k : ℕ) (g : Global) → slice_get table k ≡ Some g → slice_get (declarations p ids n table) k ≡ Some (declaration p ids (n + k) g)
+pub declaration_at : (p : Program) (ids : Global → ℕ) (n : ℕ) (table : List Global) (k : ℕ) (g : Global) → slice_get table k ≡ Some g → slice_get (declarations p ids n table) k ≡ Some (declaration p ids (n + k) g)
 declaration_at p ids n [] k g e = absurd (cc)
 declaration_at p ids n (x ∷ table) zero g e =
     let same : n ≡ n + 0 = omega arith in
@@ -30,7 +30,7 @@ declaration_at p ids n (x ∷ table) (suc k) g e =
     let same : suc n + k ≡ n + suc k = omega arith in
     declaration_at p ids (suc n) table k g e ∙ ap (λ id. Some (declaration p ids id g)) same
 
-slot_at : (ids : Global → ℕ) (n : ℕ) (slots : List Slot) (k : ℕ) (s : Slot) → slice_get slots k ≡ Some s → slice_get (slot_variables ids n slots) k ≡ Some (slot_variable ids (n + k) s)
+pub slot_at : (ids : Global → ℕ) (n : ℕ) (slots : List Slot) (k : ℕ) (s : Slot) → slice_get slots k ≡ Some s → slice_get (slot_variables ids n slots) k ≡ Some (slot_variable ids (n + k) s)
 slot_at ids n [] k s e = absurd (cc)
 slot_at ids n (x ∷ slots) zero s e =
     let same : n ≡ n + 0 = omega arith in
@@ -77,7 +77,7 @@ module _ (p : Program) (list : List Region) (at : Bindings) (v : Version) (plan 
       (refl, (refl, (refl, (refl, each_append NoLabel (names 0 list) _ (names_each p list at v plan 0 list NoLabel (λ operands. refl)) (each_append NoLabel (decs p list at v plan) _ marked (refl, (refl, declared)))))))
 
   -- what stands there is in no block
-  early_block : (place : ℕ) (i : Inst) → slice_get early place ≡ Some i → block_of (insts_of p list at v plan) place ≡ 0
+  pub early_block : (place : ℕ) (i : Inst) → slice_get early place ≡ Some i → block_of (insts_of p list at v plan) place ≡ 0
   unfolding block_of
   early_block place i e =
       let low : place < length early = get_below early place i e in
