@@ -1,0 +1,5 @@
+pub mod Trees
+pub mod Needed
+pub mod Types
+pub mod Counted
+pub mod Whole
