@@ -13,7 +13,7 @@ use Rattle.spirv_meaning.specs.Bindings.{Bindings}
 use Rattle.spirv_code.specs.Plans.{Plan}
 use Rattle.spirv_code.specs.Frame.{module_of}
 use Rattle.module_loops.specs.Heads.{IsHead}
-use Rattle.module_loops.specs.Laws.{IsStructured}
+use Rattle.module_loops.specs.Structured.{IsStructured}
 use Rattle.head_sites.specs.Paths.{MeetsFirst}
 
 -- for each loop header there is one head whose site is the first that paths of branch edges from the header's label meet, and no other block is such

@@ -16,7 +16,7 @@ use Rattle.frame_facts.proofs.Searches.{get_below, eq_same}
 use Rattle.frame_facts.proofs.Counting.{bit, single, times, times_arms}
 use Rattle.frame_facts.proofs.Wiring.{root_once}
 use Rattle.module_nesting.proofs.Counted.{total, total_low, total_two, total_at, total_shift, get_some, single_leaf, part_there}
-use Rattle.module_counts.specs.Laws.{switches_of, switches_in, switches_at}
+use Rattle.module_counts.specs.Counts.{switches_of, switches_in, switches_at}
 use Rattle.module_counts.proofs.Rows.{repeat, repeat_low, tops, arm_ops}
 use Rattle.module_counts.proofs.Lines.{is_other}
 

@@ -15,7 +15,7 @@ use Rattle.spirv_code.specs.Exits.{label_inst, branch_inst, no_block, setters_co
 use Rattle.spirv_code.specs.Trees.{Tree, Missing, Leaf, Then, Loop, Dispatch, Arms, No_arm, Arm, label_at, place_of, arm_label}
 use Rattle.spirv_code.specs.Rows.{when_head, onwards, when_code, arm_code, header_code, footer_code, dispatch_head, dispatch_tail, block_at, row_code, one_arm, met_arms, wanted_arms}
 use Rattle.module_structure.proofs.Inner.{read_low, store_low}
-use Rattle.module_counts.specs.Laws.{switches_of}
+use Rattle.module_counts.specs.Counts.{switches_of}
 use Rattle.module_counts.proofs.Lines.{is_other, AreOthers, inner_others, block_others}
 
 -- so many times a number

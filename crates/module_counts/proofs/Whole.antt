@@ -17,7 +17,8 @@ use Rattle.spirv_code.specs.Rows.{onwards, row_code}
 use Rattle.spirv_code.specs.Frame.{closing, module_of}
 use Rattle.module_structure.proofs.Function.{label, slots, body, place, front, front_low, insts_are, slots_low}
 use Rattle.module_nesting.proofs.Leaves.{blocks_in, found, distinct}
-use Rattle.module_counts.specs.Laws.{how_many, switches_at, loops_of, region_switches, LoopsAreRegions, SwitchesAreTerminators, FewSwitches, NoRingNoLoop}
+use Rattle.module_counts.specs.Counts.{how_many, switches_at}
+use Rattle.module_counts.specs.Laws.{loops_of, region_switches, LoopsAreRegions, SwitchesAreTerminators, FewSwitches, NoRingNoLoop}
 use Rattle.module_counts.proofs.Lines.{is_other, inner_others}
 use Rattle.module_counts.proofs.Rows.{repeat, ops, ops_append, others_none, tops, row_ops}
 use Rattle.module_counts.proofs.Placed.{value, root_value}

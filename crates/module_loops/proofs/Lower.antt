@@ -17,7 +17,7 @@ use Rattle.line_runs.proofs.Tests.{true_false, nat_eq-eq, nat_eq-refl}
 use Rattle.region_runs.proofs.Targets.{has_different, has_here, ends_alone, goes_alone}
 use Rattle.module_structure.proofs.Members.{IsOnce}
 use Rattle.module_structure.proofs.Trees.{Reaches, arm_keys}
-use Rattle.module_counts.specs.Laws.{switches_of}
+use Rattle.module_counts.specs.Counts.{switches_of}
 use Rattle.module_counts.proofs.Lines.{is_other}
 use Rattle.module_counts.proofs.Rows.{repeat, ops, ops_append, tops, arm_ops}
 

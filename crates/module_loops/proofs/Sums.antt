@@ -13,7 +13,7 @@ use Rattle.spirv_code.specs.Rows.{block_at}
 use Rattle.frame_facts.proofs.Searches.{eq_same}
 use Rattle.frame_facts.proofs.Counting.{bit, single, times, times_arms}
 use Rattle.module_nesting.proofs.Counted.{total, total_low}
-use Rattle.module_counts.specs.Laws.{switches_of, switches_at}
+use Rattle.module_counts.specs.Counts.{switches_of, switches_at}
 use Rattle.module_counts.proofs.Lines.{is_other}
 use Rattle.module_counts.proofs.Rows.{repeat, repeat_low, tops, arm_ops}
 use Rattle.module_counts.proofs.Placed.{Placed, ArePlaced, root_placed, value, value_in, weight, all_values, switches_same}

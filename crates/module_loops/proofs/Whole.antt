@@ -19,7 +19,8 @@ use Rattle.spirv_code.specs.Rows.{onwards, row_code}
 use Rattle.spirv_code.specs.Frame.{closing, module_of}
 use Rattle.module_structure.proofs.Function.{label, slots, body, place, front, insts_are}
 use Rattle.module_nesting.proofs.Leaves.{blocks_in, found, listed, distinct}
-use Rattle.module_counts.specs.Laws.{how_many, switches_at, loops_of}
+use Rattle.module_counts.specs.Counts.{how_many, switches_at}
+use Rattle.module_counts.specs.Laws.{loops_of}
 use Rattle.module_counts.proofs.Rows.{repeat, ops, ops_append, tops}
 use Rattle.module_counts.proofs.Placed.{value}
 use Rattle.module_counts.proofs.Whole.{one_of, quiet_loop, many_is, sum_same, loops_are_regions}

@@ -1,25 +1,17 @@
 -- The loops of a module are those of its program's branch graph.
-use Rattle.std.specs.Prelude.{◌≡◌, ℕ, ◌≤◌, List, length}
+use Rattle.std.specs.Prelude.{◌≡◌, ℕ, List, length}
 use Rattle.dxil_form.specs.declared.program.Program.{Program}
 use Rattle.dxil_form.specs.declared.region.Region.{Region}
-use Rattle.dxil_form.specs.Graphs.{Graph, Crossed}
-use Rattle.dxil_form.specs.Branches.{IsBranchGraph}
+use Rattle.dxil_form.specs.Graphs.{Graph}
 use Rattle.dxil_form.specs.Sound.{Sound}
 use Rattle.spv_form.specs.declared.module.Version.{Version}
-use Rattle.region_leaves.specs.Leaves.{AreReachable}
 use Rattle.program_regions.specs.Chosen.{AreRegions}
 use Rattle.spirv_meaning.specs.Bindings.{Bindings}
 use Rattle.spirv_code.specs.Plans.{Plan}
 use Rattle.spirv_code.specs.Frame.{module_of}
-use Rattle.module_counts.specs.Laws.{how_many}
+use Rattle.module_counts.specs.Counts.{how_many}
 use Rattle.module_loops.specs.Heads.{HasHeads}
-
--- no ring of the branch graph is crossed, and at most 400 blocks are reachable
-pub record IsStructured (p : Program) (blocks : List ℕ) (g : Graph) : Type 0 where
-  pub reachable : AreReachable p blocks
-  pub few : length blocks ≤ 400
-  pub graph : IsBranchGraph p g
-  pub uncrossed : Crossed g → ⊥
+use Rattle.module_loops.specs.Structured.{IsStructured}
 
 -- as many OpLoopMerge as heads
 abbrev pub LoopsAreAsManyAsHeads : Type 0

@@ -11,7 +11,7 @@ use Rattle.program_regions.specs.Chosen.{AreRegions}
 use Rattle.spirv_meaning.specs.Bindings.{Bindings}
 use Rattle.spirv_code.specs.Plans.{Plan}
 use Rattle.spirv_code.specs.Frame.{module_of}
-use Rattle.module_loops.specs.Laws.{IsStructured}
+use Rattle.module_loops.specs.Structured.{IsStructured}
 use Rattle.site_loops.specs.Sites.{InLoops, IsSite}
 
 -- each reachable block has a site, which stands in exactly as many loop constructs as the block is deep
