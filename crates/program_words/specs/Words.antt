@@ -1,35 +1,19 @@
 -- The words that a program is translated into.
-use Rattle.std.specs.Prelude.{◌≡◌, ℕ, ◌+◌, ◌*◌, ◌^◌, ◌≤◌, List, [], ◌∷◌, ◌++◌, length, take}
-use Rattle.std.specs.List.{sum_by}
-use Rattle.dx_base.specs.First.{IsSound}
+use Rattle.std.specs.Prelude.{◌≡◌, ℕ, ◌+◌, ◌*◌, ◌^◌, List, [], ◌∷◌, ◌++◌, length}
 use Rattle.dxil_form.specs.declared.block.Block.{Block}
 use Rattle.dxil_form.specs.declared.block.Term.TheVariants.{Ret}
 use Rattle.dxil_form.specs.declared.program.Program.{Program}
-use Rattle.dxil_form.specs.Graphs.{Graph, Ring, Reached, HasDepth}
-use Rattle.dxil_form.specs.Branches.{declared_graph}
 use Rattle.spv_form.specs.declared.module.Module.{Module}
 use Rattle.spv_form.specs.declared.module.Version.{Version}
 use Rattle.spv_form.specs.Formed.{IsFormed}
 use Rattle.spv_form.specs.WordRules.{IsModule}
 use Rattle.spv_form.specs.Versions.{version_word}
-use Rattle.order_rules.specs.Merges.{waiting}
-use Rattle.flow_rules.specs.declared.block.Merge.{Merge}
-use Rattle.flow_rules.specs.Flow.{Loops}
-use Rattle.flow_rules.specs.Rules.{Broken}
-use Rattle.flow_blocks.specs.Numbered.{blocks_of}
 use Rattle.spirv_meaning.specs.Bindings.{plain_bindings}
 use Rattle.spirv_meaning.specs.Same.{Same}
-use Rattle.ruled_ids.specs.Laws.{DefineOnce}
-use Rattle.frame_order.specs.Laws.{KeepsOrder}
-use Rattle.frame_rules.specs.Laws.{KeepsFrame}
-use Rattle.frame_apart.specs.Laws.{KeepsTypesApart}
-use Rattle.frame_marks.specs.Laws.{KeepsMarks}
-use Rattle.module_sizes.specs.Sizes.{IsSmall}
-use Rattle.module_counts.specs.Laws.{how_many, switches_at}
-use Rattle.module_loops.specs.Heads.{IsHead, HasHeads}
-use Rattle.module_loops.specs.Laws.{IsStructured}
-use Rattle.site_loops.specs.Sites.{IsSite, InLoops}
-use Rattle.head_sites.specs.Paths.{MeetsFirst}
+use Rattle.act_counts.specs.Laws.{HasFewActs}
+use Rattle.variable_counts.specs.Laws.{HasFewVariables}
+use Rattle.module_laws.specs.Rules.{KeepsRules}
+use Rattle.module_laws.specs.Loops.{HasLoops}
 
 -- ---- a program that does nothing
 
@@ -58,26 +42,7 @@ idle_words version counts =
 
 -- ---- every program
 
--- Of the rules of a module: its blocks break none of S1 to S12; its instructions stand in order (V1, V2, V11, V12, V15); its types are listed ones and none is declared twice, its variables are decorated as they have to be, and its entry point lists its variables and names its function (V5, V7, V8 of variables, V9, V10); no id is defined twice (V3); ids are at most 4,194,303 (V13); and never more than 1,023 merge instructions wait for their merge labels (V14).
-pub record KeepsRules (m : Module) : Type 0 where
-  pub structure : IsSound (Broken (blocks_of m.insts))
-  pub ordered : KeepsOrder m.insts
-  pub framed : KeepsFrame m.version m.insts
-  pub apart : KeepsTypesApart m.insts
-  pub marked : KeepsMarks m.insts
-  pub once : DefineOnce m.insts
-  pub small : IsSmall m
-  pub shallow : (j : ℕ) → waiting (take j m.insts) ≤ 1023
-
--- Its loops and switches, where no ring of the branch graph is crossed and at most 400 blocks are reachable: as many OpLoopMerge (246) as heads, and none without a ring; at most one OpSwitch (251) for each begun 16,383 cases of each reachable block's switch; each reachable block begins at a site that stands in exactly as many loop constructs as the block is deep; and from each loop header the first site that branches lead to is that of one head.
-pub record HasLoops (p : Program) (m : Module) : Type 0 where
-  pub heads : (blocks : List ℕ) (g : Graph) → IsStructured p blocks g → HasHeads g (how_many 246 m.insts)
-  pub none : (blocks : List ℕ) (g : Graph) → IsStructured p blocks g → ((ring : List ℕ) → Ring g ring → ⊥) → how_many 246 m.insts ≡ 0
-  pub switches : (blocks : List ℕ) (g : Graph) → IsStructured p blocks g → how_many 251 m.insts ≤ sum_by (switches_at p) blocks
-  pub sites : (blocks : List ℕ) (g : Graph) → IsStructured p blocks g → (b : ℕ) → Reached (declared_graph p) b → (q : ℕ) × (n : ℕ) × IsSite m b q × HasDepth g b n × InLoops (blocks_of m.insts) q n
-  pub headers : (blocks : List ℕ) (g : Graph) → IsStructured p blocks g → (q : ℕ) (by : Merge) (continue_target : ℕ) → Loops (blocks_of m.insts) q by continue_target → (h : ℕ) × IsHead g h × MeetsFirst m q h × ((k : ℕ) → MeetsFirst m q k → k ≡ h)
-
--- The words are those of a module of this version whose instructions are as their opcodes say, that keeps these rules, that does the same as the program, and whose loops are those of its branch graph. Those of a program that does nothing are fixed.
+-- The words are those of a module of this version whose instructions are as their opcodes say, that keeps the rules, that does the same as the program, whose loops are those of its branch graph, and that has no more accesses, atomics, barriers and divisions than the blocks of the program that are reached. Where its branches are a tree, it has few variables. Those of a program that does nothing are fixed.
 pub record IsWordsOf (p : Program) (version : Version) (words : List ℕ) : Type 0 where
   pub made : Module
   pub spelled : IsModule words made
@@ -86,4 +51,6 @@ pub record IsWordsOf (p : Program) (version : Version) (words : List ℕ) : Type
   pub keeps : KeepsRules made
   pub same : Same p (plain_bindings p) made
   pub loops : HasLoops p made
+  pub acts : HasFewActs p made
+  pub variables : HasFewVariables p made
   pub idle : IsIdle p → words ≡ idle_words version p.local

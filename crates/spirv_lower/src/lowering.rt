@@ -1,4 +1,5 @@
 ghost use Rattle.std.specs.Prelude.{◌≡◌, ◌≤◌, IfOk, IsTrue, map};
+ghost use Rattle.dx_base.specs.First.{IsSound};
 ghost use Rattle.dxil_form.specs.Sound.{Sound};
 ghost use Rattle.dxil_form.specs.Wired.{Wired};
 ghost use Rattle.phi_demotion.specs.Slots.{AreSlots};
@@ -14,10 +15,18 @@ ghost use Rattle.module_form.specs.Form.{HasForm};
 ghost use Rattle.buffer_form.specs.Buffers.{HasBuffers};
 ghost use Rattle.site_form.specs.Sites.{HasSites};
 ghost use Rattle.act_form.specs.Acts.{HasActs};
+ghost use Rattle.act_counts.specs.Laws.{HasFewActs};
+ghost use Rattle.flow_rules.specs.Rules.{Broken};
+ghost use Rattle.flow_blocks.specs.Numbered.{blocks_of};
+ghost use Rattle.program_regions.specs.Chosen.{AreRegions};
+ghost use Rattle.variable_counts.specs.Laws.{HasFewVariables};
+ghost use Rattle.module_laws.specs.Rules.{KeepsRules};
+ghost use Rattle.module_laws.specs.Loops.{HasLoops};
 ghost use Rattle.spirv_lower.specs.Counted.{AreCounted};
 
 use crate::passing::wants;
 use crate::variables::find_variables;
+use act_counts::modules_have_few_acts;
 use act_form::module_has_acts;
 use buffer_form::module_has_buffers;
 use chosen_plan::plans_are_chosen;
@@ -25,8 +34,10 @@ use dx_base::OutOfMemory;
 use dxil_form::{Program, Region, Regions};
 use module_form::module_has_form;
 use module_formed::modules_are_formed;
+use module_laws::{modules_have_loops, modules_keep_rules};
 use module_same::modules_are_same;
 use module_sizes::modules_are_small;
+use module_structure::modules_keep_structure;
 use phi_demotion::Slots;
 use phi_entries::Entries;
 use resource_map::{Binding, Bindings};
@@ -37,6 +48,7 @@ use spirv_keys::table_of;
 use spirv_table::Tables;
 use spv_form::{Module, Version};
 use std::alloc::Global;
+use variable_counts::modules_have_few_variables;
 
 /// What the module of a program declares, over regions and slots that need not be its own.
 fn find_tables(
@@ -111,7 +123,7 @@ pub fn write_program(
 
 /// The module of a program over its regions, with the slots of its registers and the bindings of its resources, in a version.
 ///
-/// It does the same as the program, in every launch and by every schedule. Each of its instructions has the operands that its opcode takes. Its bound is at most 4,194,303, and it has fewer than 2^24 words. It declares of itself, of its buffers and of its groupshared arrays what these have to have, and has a site for each block that is reached. It has the accesses, atomics and barriers of these blocks, and no others.
+/// It does the same as the program, in every launch and by every schedule. Each of its instructions has the operands that its opcode takes. Its bound is at most 4,194,303, and it has fewer than 2^24 words. It declares of itself, of its buffers and of its groupshared arrays what these have to have, and has a site for each block that is reached. It has the accesses, atomics and barriers of these blocks, and no others, so of each kind no more than they have. Its blocks break none of the structure rules; where the regions are those of the program's branch graph, its instructions break none of the rules V1 to V15, its loops and switches are those of the graph, and it has few variables where that is a tree.
 #[tactic(auto, using(crate::proofs::Counts::counted))]
 pub fn lower(
     alloc: Global,
@@ -133,6 +145,11 @@ pub fn lower(
     ensures buffers { IfOk result (λ m. HasBuffers p.now (map pair_of bindings.now) m) }
     ensures sites { IfOk result (λ m. HasSites p.now m) }
     ensures acts { IfOk result (λ m. HasActs p.now m) }
+    ensures counts { IfOk result (λ m. HasFewActs p.now m) }
+    ensures few_variables { IfOk result (λ m. AreRegions p.now regions.now.list → HasFewVariables p.now m) }
+    ensures structure { IfOk result (λ m. IsSound (Broken (blocks_of m.insts))) }
+    ensures rules { IfOk result (λ m. AreRegions p.now regions.now.list → KeepsRules m) }
+    ensures loops { IfOk result (λ m. AreRegions p.now regions.now.list → HasLoops p.now m) }
 {
     modules_are_same();
     modules_are_formed();
@@ -142,6 +159,11 @@ pub fn lower(
     module_has_buffers();
     module_has_sites();
     module_has_acts();
+    modules_have_few_acts();
+    modules_have_few_variables();
+    modules_keep_structure();
+    modules_keep_rules();
+    modules_have_loops();
     let list = regions.list.as_slice();
     let tables = find_tables(alloc, p, list, slots)?;
     write_by(alloc, p, list, &tables, bindings.as_slice(), version)

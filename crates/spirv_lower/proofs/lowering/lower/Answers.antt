@@ -1,4 +1,5 @@
 use Rattle.std.proofs.Common.{◌≡◌, map, refl, sym, ap, subst, ◌∙◌}
+use Rattle.dx_base.specs.First.{IsSound}
 use Rattle.resource_map.specs.Pairs.{pair_of}
 use Rattle.spv_form.specs.Formed.{IsFormed}
 use Rattle.spirv_meaning.specs.Same.{Same}
@@ -8,6 +9,13 @@ use Rattle.module_form.specs.Form.{HasForm}
 use Rattle.buffer_form.specs.Buffers.{HasBuffers}
 use Rattle.site_form.specs.Sites.{HasSites}
 use Rattle.act_form.specs.Acts.{HasActs}
+use Rattle.act_counts.specs.Laws.{HasFewActs}
+use Rattle.flow_rules.specs.Rules.{Broken}
+use Rattle.flow_blocks.specs.Numbered.{blocks_of}
+use Rattle.program_regions.specs.Chosen.{AreRegions}
+use Rattle.variable_counts.specs.Laws.{HasFewVariables}
+use Rattle.module_laws.specs.Rules.{KeepsRules}
+use Rattle.module_laws.specs.Loops.{HasLoops}
 use Rattle.spirv_lower.specs.Counted.{AreCounted}
 use Rattle.spirv_lower.proofs.Counts.{counted}
 use Rattle.spirv_lower.proofs.Written.{made, holds_of, tables_few}
@@ -106,3 +114,51 @@ returns-clause-acts c =
     let v = c.args.version in
     let law = c.module_has_acts.ensures p list slots at v c.requires.sound c.requires.wired c.requires.slots c.requires.bindings in
     holds_of c.write_by.result p slots v _ _ _ _ _ (HasActs p) c.write_by.ensures c.in_ok-tables.ensures c.as_slice-list.ensures c.as_slice.ensures law
+
+pub returns-clause-counts : goal.returns-clause-counts
+returns-clause-counts c =
+    let p = c.args.p.now in
+    let list = c.args.regions.now.list in
+    let slots = c.args.slots.now in
+    let at = map pair_of c.args.bindings.now in
+    let v = c.args.version in
+    let acts = c.module_has_acts.ensures p list slots at v c.requires.sound c.requires.wired c.requires.slots c.requires.bindings in
+    let law = c.modules_have_few_acts.ensures p _ acts in
+    holds_of c.write_by.result p slots v _ _ _ _ _ (HasFewActs p) c.write_by.ensures c.in_ok-tables.ensures c.as_slice-list.ensures c.as_slice.ensures law
+
+pub returns-clause-few_variables : goal.returns-clause-few_variables
+returns-clause-few_variables c =
+    let p = c.args.p.now in
+    let list = c.args.regions.now.list in
+    let slots = c.args.slots.now in
+    let at = map pair_of c.args.bindings.now in
+    let v = c.args.version in
+    holds_of c.write_by.result p slots v _ _ _ _ _ (λ m. AreRegions p list → HasFewVariables p m) c.write_by.ensures c.in_ok-tables.ensures c.as_slice-list.ensures c.as_slice.ensures (λ regions. c.modules_have_few_variables.ensures p list slots at v c.requires.sound regions c.requires.slots)
+
+pub returns-clause-structure : goal.returns-clause-structure
+returns-clause-structure c =
+    let p = c.args.p.now in
+    let list = c.args.regions.now.list in
+    let slots = c.args.slots.now in
+    let at = map pair_of c.args.bindings.now in
+    let v = c.args.version in
+    let law = c.modules_keep_structure.ensures p list at v (plan_for p list slots) c.requires.wired refl in
+    holds_of c.write_by.result p slots v _ _ _ _ _ (λ m. IsSound (Broken (blocks_of m.insts))) c.write_by.ensures c.in_ok-tables.ensures c.as_slice-list.ensures c.as_slice.ensures law
+
+pub returns-clause-rules : goal.returns-clause-rules
+returns-clause-rules c =
+    let p = c.args.p.now in
+    let list = c.args.regions.now.list in
+    let slots = c.args.slots.now in
+    let at = map pair_of c.args.bindings.now in
+    let v = c.args.version in
+    holds_of c.write_by.result p slots v _ _ _ _ _ (λ m. AreRegions p list → KeepsRules m) c.write_by.ensures c.in_ok-tables.ensures c.as_slice-list.ensures c.as_slice.ensures (λ regions. c.modules_keep_rules.ensures p list slots at v c.requires.sound regions c.requires.slots c.requires.bindings)
+
+pub returns-clause-loops : goal.returns-clause-loops
+returns-clause-loops c =
+    let p = c.args.p.now in
+    let list = c.args.regions.now.list in
+    let slots = c.args.slots.now in
+    let at = map pair_of c.args.bindings.now in
+    let v = c.args.version in
+    holds_of c.write_by.result p slots v _ _ _ _ _ (λ m. AreRegions p list → HasLoops p m) c.write_by.ensures c.in_ok-tables.ensures c.as_slice-list.ensures c.as_slice.ensures (λ regions. c.modules_have_loops.ensures p list at v (plan_for p list slots) c.requires.sound regions refl)
